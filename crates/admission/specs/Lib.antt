@@ -1,0 +1,5 @@
+pub mod Least
+pub mod Demand
+pub mod Admission
+pub mod Laws
+pub mod Cases

@@ -1,0 +1,99 @@
+-- Lists: two lists joined element by element, and a list laid over the front of an array.
+use Prim.Native.Nat.{ℕ, zero, suc, pred, _+_, _<_, _≤_}
+use native.Mathlib.Nat.{le-of-suc-le-suc, not-suc-le-zero}
+use mathlib.Core.Path.{_≡_, refl, ap, sym, _∙_}
+use mathlib.Core.Bool.{Bool, true, false, _&&_, _||_}
+use mathlib.Core.List.{List, [], _∷_, _++_}
+use lib.ListN.{length, take, drop, getD, set}
+use lib.Seq.{take-append-seam, take-append-le}
+
+-- the elements of two lists, joined one by one, as far as both go
+abbrev pub zipWith : {A B C : Type 0} → (A → B → C) → List A → List B → List C
+zipWith f [] ys = []
+zipWith f (x ∷ xs) [] = []
+zipWith f (x ∷ xs) (y ∷ ys) = f x y ∷ zipWith f xs ys
+
+-- some element passes
+abbrev pub any : {A : Type 0} → (A → Bool) → List A → Bool
+any f [] = false
+any f (x ∷ xs) = f x || any f xs
+
+-- every element passes
+abbrev pub all : {A : Type 0} → (A → Bool) → List A → Bool
+all f [] = true
+all f (x ∷ xs) = f x && all f xs
+
+-- every two that stand at one place pass, as far as both lists go
+abbrev pub allWith : {A B : Type 0} → (A → B → Bool) → List A → List B → Bool
+allWith f [] ys = true
+allWith f (x ∷ xs) [] = true
+allWith f (x ∷ xs) (y ∷ ys) = f x y && allWith f xs ys
+
+-- how many are true
+abbrev pub count : List Bool → ℕ
+count [] = 0
+count (true ∷ bs) = 1 + count bs
+count (false ∷ bs) = count bs
+
+-- an array whose front is `new` and whose later slots are unchanged
+unfoldable pub overlay : {A : Type 0} → List A → List A → List A
+overlay new old = new ++ drop (length new) old
+
+-- ---- laws
+-- one slot more of a loop that writes f x y over y
+pub overlay-step : {A B : Type 0} (f : A → B → B) (i : ℕ) (xs : List A) (ys : List B) (a : A) (b : B) →
+    i < length xs → i < length ys →
+    set (overlay (zipWith f (take i xs) (take i ys)) ys) i (f (getD xs i a) (getD ys i b)) ≡
+    overlay (zipWith f (take (suc i) xs) (take (suc i) ys)) ys
+unfolding overlay
+overlay-step f zero [] ys a b p q = absurd (not-suc-le-zero p)
+overlay-step f zero (x ∷ xs) [] a b p q = absurd (not-suc-le-zero q)
+overlay-step f zero (x ∷ xs) (y ∷ ys) a b p q = refl
+overlay-step f (suc i) [] ys a b p q = absurd (not-suc-le-zero p)
+overlay-step f (suc i) (x ∷ xs) [] a b p q = absurd (not-suc-le-zero q)
+overlay-step {B} f (suc i) (x ∷ xs) (y ∷ ys) a b p q =
+    ap {B = List B} (λ r. f x y ∷ r) (overlay-step f i xs ys a b (le-of-suc-le-suc p) (le-of-suc-le-suc q))
+
+-- the loop has not come to slot i yet
+pub overlay-ahead : {A B : Type 0} (f : A → B → B) (i : ℕ) (xs : List A) (ys : List B) (b : B) →
+    getD (overlay (zipWith f (take i xs) (take i ys)) ys) i b ≡ getD ys i b
+unfolding overlay
+overlay-ahead f zero xs ys b = refl
+overlay-ahead f (suc i) [] ys b = refl
+overlay-ahead f (suc i) (x ∷ xs) [] b = refl
+overlay-ahead f (suc i) (x ∷ xs) (y ∷ ys) b = overlay-ahead f i xs ys b
+
+-- nothing new: the array as it was
+pub overlay-take : {A : Type 0} (n : ℕ) (xs : List A) → overlay (take n xs) xs ≡ xs
+unfolding overlay
+overlay-take zero xs = refl
+overlay-take (suc n) [] = refl
+overlay-take {A} (suc n) (x ∷ xs) = ap {B = List A} (λ r. x ∷ r) (overlay-take n xs)
+
+-- one element more: a store behind the front
+pub overlay-push : {A : Type 0} (n : ℕ) (xs : List A) (a : A) → n < length xs → overlay (take n xs ++ (a ∷ [])) xs ≡ set xs n a
+unfolding overlay
+overlay-push zero [] a h = absurd (not-suc-le-zero h)
+overlay-push zero (x ∷ xs) a h = refl
+overlay-push (suc n) [] a h = absurd (not-suc-le-zero h)
+overlay-push {A} (suc n) (x ∷ xs) a h = ap {B = List A} (λ r. x ∷ r) (overlay-push n xs a (le-of-suc-le-suc h))
+
+pub length-push : {A : Type 0} (n : ℕ) (xs : List A) (a : A) → n < length xs → length (take n xs ++ (a ∷ [])) ≡ suc n
+length-push zero xs a h = refl
+length-push (suc n) [] a h = absurd (not-suc-le-zero h)
+length-push (suc n) (x ∷ xs) a h = ap suc (length-push n xs a (le-of-suc-le-suc h))
+
+-- what was laid over an array is read back
+pub take-overlay : {A : Type 0} (n : ℕ) (new old : List A) → length new ≡ n → take n (overlay new old) ≡ new
+unfolding overlay
+take-overlay n new old e = rw (← e) (take-append-seam new (drop (length new) old))
+
+pub take-overlay-le : {A : Type 0} (k n : ℕ) (new old : List A) → length new ≡ n → k ≤ n → take k (overlay new old) ≡ take k new
+unfolding overlay
+take-overlay-le k n new old e h = take-append-le k new (drop (length new) old) (rw e h)
+
+-- a list of equal length is joined to one of that length
+pub zip-length : {A B C : Type 0} (f : A → B → C) (xs : List A) (ys : List B) → length xs ≡ length ys → length (zipWith f xs ys) ≡ length ys
+zip-length f [] ys e = e
+zip-length f (x ∷ xs) [] e = refl
+zip-length f (x ∷ xs) (y ∷ ys) e = ap suc (zip-length f xs ys (ap pred e))

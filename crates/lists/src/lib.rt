@@ -1,0 +1,1 @@
+// Lists and tests that the definitions of every layer share. Specifications only: no code.

@@ -1,0 +1,59 @@
+-- Cases of the queue's rules, worked out apart from the definitions.
+use Prim.Native.Nat.{ℕ}
+use mathlib.Core.Path.{_≡_, refl}
+use mathlib.Core.Bool.{Bool, true, false}
+use mathlib.Core.List.{List, [], _∷_, map}
+use lib.ListN.{length}
+use Rattle.lists.specs.Lists.{overlay}
+use Rattle.queue.specs.declared.Request.{Request}
+use Rattle.queue.specs.declared.Queue.{Queue}
+use Rattle.queue.specs.declared.Finish.{Finish}
+use Rattle.queue.specs.Queue.{maxWaiting, workFits, waitingOf, queueWith, freshQueue, waits, headId, presented, served, finished, requestFits, requestsFit}
+
+-- id, work left, arrival
+abbrev ask : ℕ → ℕ → ℕ → Request
+ask i w a = record { id = i; work = w; arrival = a }
+
+-- three slots, two in use: enough to see what moves and what stays
+abbrev three : Queue
+three = record { requests = ask 7 1 3 ∷ ask 8 2 5 ∷ ask 9 9 9 ∷ []; n = 2 }
+
+pub record QueueCases : Type 0 where
+  pub fresh-slots : length (freshQueue .requests) ≡ 64
+  pub fresh-waits : waits (waitingOf freshQueue) ≡ false
+  pub in-use : waitingOf three ≡ ask 7 1 3 ∷ ask 8 2 5 ∷ []
+  pub head-waits : waits (waitingOf three) ≡ true
+  pub head : headId (waitingOf three) ≡ 7
+  pub last-come : presented 4 6 5 (waitingOf three) ≡ ask 7 1 3 ∷ ask 8 2 5 ∷ ask 4 6 5 ∷ []
+  pub leaves-at-zero : served (waitingOf three) ≡ ask 8 2 5 ∷ []
+  pub works-on : served (ask 8 2 5 ∷ ask 7 1 3 ∷ []) ≡ ask 8 1 5 ∷ ask 7 1 3 ∷ []
+  pub none-served : served [] ≡ []
+  pub responds : finished 6 (waitingOf three) ≡ Finish.Finished 7 4
+  pub unfinished : finished 6 (ask 8 2 5 ∷ []) ≡ Finish.Nothing
+  pub none-finished : finished 6 [] ≡ Finish.Nothing
+  -- a slot that the list does not reach keeps what it held
+  pub slots-kept : queueWith three (served (waitingOf three)) ≡ record { requests = ask 8 2 5 ∷ ask 8 2 5 ∷ ask 9 9 9 ∷ []; n = 1 }
+  pub work-limits : map workFits (0 ∷ 1 ∷ 60_000 ∷ 60_001 ∷ []) ≡ false ∷ true ∷ true ∷ false ∷ []
+  pub arrival-limits : map (λ a. requestFits 5 (ask 0 1 a)) (0 ∷ 5 ∷ 6 ∷ []) ≡ true ∷ true ∷ false ∷ []
+  pub every-request : requestsFit 5 (ask 0 1 5 ∷ ask 0 0 5 ∷ []) ≡ false
+
+pub queue-cases : QueueCases
+unfolding overlay
+queue-cases = record {
+  fresh-slots = refl;
+  fresh-waits = refl;
+  in-use = refl;
+  head-waits = refl;
+  head = refl;
+  last-come = refl;
+  leaves-at-zero = refl;
+  works-on = refl;
+  none-served = refl;
+  responds = refl;
+  unfinished = refl;
+  none-finished = refl;
+  slots-kept = refl;
+  work-limits = refl;
+  arrival-limits = refl;
+  every-request = refl;
+}

@@ -1,0 +1,65 @@
+-- The requests that wait, as a list with the head first, and the array that holds them.
+use Prim.Native.Nat.{ℕ, _+_, _-_}
+use mathlib.Core.Bool.{Bool, true, false, cond, _&&_}
+use mathlib.Core.List.{List, [], _∷_, _++_}
+use lib.ListN.{length, take, replicate}
+use lib.Dec.{leb}
+use Rattle.lists.specs.Lists.{overlay, all}
+use Rattle.lists.specs.Tests.{between}
+use Rattle.queue.specs.declared.Request.{Request}
+use Rattle.queue.specs.declared.Queue.{Queue}
+use Rattle.queue.specs.declared.Finish.{Finish}
+
+-- "The queue holds at most 64 requests."
+abbrev pub maxWaiting : ℕ
+maxWaiting = 64
+
+-- "Each has .. work left (1 to 60,000)."
+abbrev pub maxWork : ℕ
+maxWork = 60_000
+
+abbrev pub workFits : ℕ → Bool
+workFits work = between 1 maxWork work
+
+-- what waits in the array
+abbrev pub waitingOf : Queue → List Request
+waitingOf q = take (q .n) (q .requests)
+
+-- the array with a list of waiting requests laid over its front: slots that the list does not reach keep what they held
+abbrev pub queueWith : Queue → List Request → Queue
+queueWith q rs = record { requests = overlay rs (q .requests); n = length rs }
+
+-- a fresh queue: "nothing is .. waiting", and every slot is 0
+abbrev pub freshQueue : Queue
+freshQueue = record { requests = replicate maxWaiting (record { id = 0; work = 0; arrival = 0 }); n = 0 }
+
+-- some request waits
+abbrev pub waits : List Request → Bool
+waits [] = false
+waits (r ∷ q) = true
+
+-- the head's id; 0 where none waits
+abbrev pub headId : List Request → ℕ
+headId [] = 0
+headId (r ∷ q) = r .id
+
+-- "first come first served": a request that is presented goes to the end, with "its arrival tick, which is the current tick"
+abbrev pub presented : ℕ → ℕ → ℕ → List Request → List Request
+presented id work t q = q ++ (record { id = id; work = work; arrival = t } ∷ [])
+
+-- Step 5: "The occupant loses one tick of work; a request at zero leaves the queue"
+abbrev pub served : List Request → List Request
+served [] = []
+served (r ∷ q) = cond (leb (r .work) 1) q (record { id = r .id; work = r .work - 1; arrival = r .arrival } ∷ q)
+
+-- "and is finished, with response t + 1 − arrival."
+abbrev pub finished : ℕ → List Request → Finish
+finished t [] = Finish.Nothing
+finished t (r ∷ q) = cond (leb (r .work) 1) (Finish.Finished (r .id) (t + 1 - r .arrival)) Finish.Nothing
+
+-- Refusal 11: "a waiting work outside 1 to 60,000", or "an arrival .. after the clock".
+abbrev pub requestFits : ℕ → Request → Bool
+requestFits clock r = workFits (r .work) && leb (r .arrival) clock
+
+abbrev pub requestsFit : ℕ → List Request → Bool
+requestsFit clock q = all (requestFits clock) q

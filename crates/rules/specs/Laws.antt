@@ -1,0 +1,261 @@
+-- What the calls keep: a model written over a state reads back, a fit state's accepted calls leave it fit, and so every state
+-- that calls reach from a fresh one is fit.
+use Prim.Native.Nat.{ℕ, zero, suc, _+_, _≤_, _<_}
+use native.Mathlib.Omega.{arith}
+use mathlib.Core.Path.{_≡_, refl, ap, sym, subst, _∙_}
+use mathlib.Core.Bool.{Bool, true, false, cond, not, _&&_}
+use mathlib.Core.List.{List, [], _∷_, _++_}
+use lib.ListN.{length, take, drop, replicate, length-take, length-drop, length-append, length-set}
+use lib.Dec.{leb, ltb}
+use lib.Seq.{length-take-le}
+use borrow.Author.Tests.{leb-true, le-leb, ltb-true}
+use Rattle.lists.specs.Lists.{all, allWith, zipWith, overlay, take-overlay, zip-length}
+use Rattle.lists.specs.Tests.{never, and-split, and-join}
+use Rattle.server.specs.declared.Server.{Server}
+use Rattle.server.specs.Kind.{Kind, background, polling, deferrable, sporadic, kindOf}
+use Rattle.server.specs.Server.{freshServer}
+use Rattle.queue.specs.declared.Request.{Request}
+use Rattle.queue.specs.Queue.{maxWaiting, workFits, waitingOf, presented, requestFits, requestsFit}
+use Rattle.table.specs.declared.Task.{Task}
+use Rattle.table.specs.declared.Table.{Table}
+use Rattle.table.specs.declared.State.{State}
+use Rattle.table.specs.declared.Checked.{Checked}
+use Rattle.table.specs.declared.Refusal.{Refusal}
+use Rattle.table.specs.Limits.{maxTasks}
+use Rattle.table.specs.Refusal.{passed}
+use Rattle.table.specs.Model.{Model, taskSetOf, modelOf, written}
+use Rattle.table.specs.State.{lastClock, freshState, tableCheck, leftFits, fit}
+use Rattle.table.specs.Facts.{TableLimits, table-limits, FitState, fit-parts, parts-fit}
+use Rattle.rules.specs.declared.Turn.{Turn}
+use Rattle.rules.specs.declared.Moved.{Moved}
+use Rattle.rules.specs.declared.Ticked.{Ticked}
+use Rattle.rules.specs.Tick.{opened, workedTasks, workedQueue, tick, turnAt, leftsAt, serverAt, seenAt, kindAt, busyAt}
+use Rattle.rules.specs.Calls.{unless, asked, requestCheck, requestCall, clockAllows, ticksCheck, ticked, stateAfter, tickCall, tickBy, runState, runCheck, runCall}
+use Rattle.rules.specs.Fitness.{ServerOk, server-ok, ok-server, replenish-ok, consume-ok, opened-fit, worked-fit, later-fit, queue-fit, queue-shorter}
+
+-- ---- a model written over a state reads back as itself
+pub reads-written : (s : State) (m : Model) → length (m .lefts) ≡ s .table .n → modelOf (written s m) ≡ m
+reads-written s m e = rw (take-overlay (s .table .n) (m .lefts) (s .progress .left) e, take-overlay (length (m .queue)) (m .queue) (s .queue .requests) refl)
+
+-- ---- the arrays of a struct have their declared lengths
+pub record Sized (s : State) : Type 0 where
+  pub tasks : length (s .table .tasks) ≡ maxTasks
+  pub left : length (s .progress .left) ≡ maxTasks
+  pub requests : length (s .queue .requests) ≡ maxWaiting
+
+overlay-length : {A : Type 0} (new old : List A) → length new ≤ length old → length (overlay new old) ≡ length old
+unfolding overlay
+overlay-length new old h = simp (length-append, length-drop) (omega arith)
+
+written-sized : (s : State) (m : Model) → Sized s → length (m .lefts) ≤ maxTasks → length (m .queue) ≤ maxWaiting → Sized (written s m)
+written-sized s m z a b = record {
+  tasks = z .tasks;
+  left = overlay-length (m .lefts) (s .progress .left) (rw (z .left) a) ∙ z .left;
+  requests = overlay-length (m .queue) (s .queue .requests) (rw (z .requests) b) ∙ z .requests;
+}
+
+-- ---- how long the lists of a model are
+worked-length : (t : Turn) (ls : List ℕ) → length (workedTasks t ls) ≡ length ls
+worked-length Turn.Nobody ls = refl
+worked-length (Turn.Task i) ls = length-set ls i _
+worked-length Turn.Budget ls = refl
+worked-length Turn.Spare ls = refl
+
+pub ticked-length : (s : State) → Sized s → s .table .n ≤ maxTasks → length (ticked s .next .lefts) ≡ s .table .n
+ticked-length s z h =
+    let a : length (take (s .table .n) (s .table .tasks)) ≡ s .table .n = length-take-le _ _ (rw (z .tasks) h) in
+    let b : length (take (s .table .n) (s .progress .left)) ≡ s .table .n = length-take-le _ _ (rw (z .left) h) in
+    worked-length (turnAt (taskSetOf (s .table)) (modelOf s)) (leftsAt (taskSetOf (s .table)) (modelOf s))
+    ∙ zip-length (opened (s .progress .clock)) (take (s .table .n) (s .table .tasks)) (take (s .table .n) (s .progress .left)) (a ∙ sym b) ∙ b
+
+waiting-length : (n : ℕ) (rs : List Request) → length (take n rs) ≤ n
+waiting-length n rs = omega (arith, length-take n rs)
+
+-- ---- a fit state's tick leaves it fit
+pub tick-fit : (s : State) → Sized s → fit s ≡ true → clockAllows s 1 ≡ true → (fit (stateAfter s) ≡ true) × Sized (stateAfter s)
+tick-fit s z e c = (parts-fit (stateAfter s) after, written-sized s (ticked s .next) z (omega (arith, len, limits .most)) (omega (arith, short, h .waiting)))
+  where
+    h : FitState s
+    h = fit-parts s e
+
+    limits : TableLimits (s .table)
+    limits = table-limits (s .table) (h .table)
+
+    len : length (ticked s .next .lefts) ≡ s .table .n
+    len = ticked-length s z (limits .most)
+
+    reads : modelOf (stateAfter s) ≡ ticked s .next
+    reads = reads-written s (ticked s .next) len
+
+    early : s .progress .clock + 1 ≤ lastClock
+    early = leb-true _ _ c
+
+    short : length (ticked s .next .queue) ≤ s .queue .n
+    short = omega (arith, queue-shorter (turnAt (taskSetOf (s .table)) (modelOf s)) (modelOf s .queue), waiting-length (s .queue .n) (s .queue .requests))
+
+    soon : s .progress .clock < lastClock
+    soon = omega (arith, early)
+
+    served : ServerOk (s .table .server) (s .progress .clock + 1) (ticked s .next .server)
+    served =
+        consume-ok (kindAt (taskSetOf (s .table))) (s .table .server) (serverAt (taskSetOf (s .table)) (modelOf s)) (seenAt (taskSetOf (s .table)) (modelOf s))
+        (limits .server .period) soon
+        (replenish-ok (kindAt (taskSetOf (s .table))) (s .table .server) (s .progress .server) (s .progress .clock) (busyAt (taskSetOf (s .table)) (modelOf s))
+        (server-ok (s .table .server) (s .progress .clock) (s .progress .server) (h .server)))
+
+    after : FitState (stateAfter s)
+    after = record {
+      table = h .table;
+      waiting = omega (arith, short, h .waiting);
+      clock = early;
+      lefts =
+          subst (λ (m : Model). allWith leftFits (taskSetOf (s .table) .tasks) (m .lefts) ≡ true) (sym reads)
+          (worked-fit (turnAt (taskSetOf (s .table)) (modelOf s)) (taskSetOf (s .table) .tasks) (leftsAt (taskSetOf (s .table)) (modelOf s))
+          (opened-fit (s .progress .clock) (taskSetOf (s .table) .tasks) (modelOf s .lefts) (h .lefts)));
+      server = ok-server (s .table .server) (s .progress .clock + 1) (ticked s .next .server) served;
+      requests =
+          subst (λ (m : Model). requestsFit (s .progress .clock + 1) (m .queue) ≡ true) (sym reads)
+          (queue-fit (turnAt (taskSetOf (s .table)) (modelOf s)) (s .progress .clock + 1) (modelOf s .queue)
+          (later-fit (s .progress .clock) (modelOf s .queue) (h .requests)));
+    }
+
+-- ---- an accepted request leaves it fit
+requests-append : (c : ℕ) (q : List Request) (r : Request) → requestsFit c q ≡ true → requestFits c r ≡ true → requestsFit c (q ++ (r ∷ [])) ≡ true
+requests-append c [] r e f = and-join _ _ f refl
+requests-append c (x ∷ q) r e f =
+    let a = and-split (requestFits c x) _ e in
+    and-join _ _ (a .0) (requests-append c q r (a .1) f)
+
+-- what an accepted request has passed
+pub record Accepted (s : State) (work : ℕ) : Type 0 where
+  pub fits : fit s ≡ true
+  pub allowed : workFits work ≡ true
+  pub room : s .queue .n < maxWaiting
+
+pub request-accepted : (s : State) (work : ℕ) → passed (requestCheck s work) ≡ true → Accepted s work
+request-accepted s work e = go (fit s) refl (workFits work) refl (ltb (s .queue .n) maxWaiting) refl e
+  where
+    go : (a : Bool) → fit s ≡ a → (b : Bool) → workFits work ≡ b → (c : Bool) → ltb (s .queue .n) maxWaiting ≡ c →
+        passed (unless a Refusal.UnfitState (unless b Refusal.BadWork (unless c Refusal.QueueFull Checked.Passed))) ≡ true → Accepted s work
+    go true ea true eb true ec p = record { fits = ea; allowed = eb; room = ltb-true _ _ ec }
+    go true ea true eb false ec p = never refl p
+    go true ea false eb c ec p = never refl p
+    go false ea b eb c ec p = never refl p
+
+pub request-fit : (s : State) (id work : ℕ) → Sized s → Accepted s work →
+    (fit (written s (asked id work (modelOf s))) ≡ true) × Sized (written s (asked id work (modelOf s)))
+request-fit s id work z ok = (
+  parts-fit (written s (asked id work (modelOf s))) after,
+  written-sized s (asked id work (modelOf s)) z (omega (arith, len, limits .most)) (omega (arith, more, ok .room)),
+)
+  where
+    h : FitState s
+    h = fit-parts s (ok .fits)
+
+    limits : TableLimits (s .table)
+    limits = table-limits (s .table) (h .table)
+
+    len : length (modelOf s .lefts) ≡ s .table .n
+    len = length-take-le _ _ (rw (z .left) (limits .most))
+
+    more : length (asked id work (modelOf s) .queue) ≤ suc (s .queue .n)
+    more = simp length-append (omega (arith, waiting-length (s .queue .n) (s .queue .requests)))
+
+    reads : modelOf (written s (asked id work (modelOf s))) ≡ asked id work (modelOf s)
+    reads = reads-written s (asked id work (modelOf s)) len
+
+    after : FitState (written s (asked id work (modelOf s)))
+    after = record {
+      table = h .table;
+      waiting = omega (arith, more, ok .room);
+      clock = h .clock;
+      lefts = subst (λ (m : Model). allWith leftFits (taskSetOf (s .table) .tasks) (m .lefts) ≡ true) (sym reads) (h .lefts);
+      server = h .server;
+      requests =
+          subst (λ (m : Model). requestsFit (s .progress .clock) (m .queue) ≡ true) (sym reads)
+          (requests-append (s .progress .clock) (modelOf s .queue) (record { id = id; work = work; arrival = s .progress .clock }) (h .requests)
+          (and-join _ _ (ok .allowed) (le-leb (s .progress .clock) (s .progress .clock) (omega arith))));
+    }
+
+-- ---- a fit state's run leaves it fit
+pub run-fit : (k : ℕ) (s : State) → Sized s → fit s ≡ true → clockAllows s k ≡ true → (fit (runState k s) ≡ true) × Sized (runState k s)
+run-fit zero s z e c = (e, z)
+run-fit (suc k) s z e c =
+    let all : s .progress .clock + suc k ≤ lastClock = leb-true _ _ c in
+    let a = tick-fit s z e (le-leb (s .progress .clock + 1) lastClock (omega arith)) in
+    run-fit k (stateAfter s) (a .1) (a .0) (le-leb (s .progress .clock + 1 + k) lastClock (omega arith))
+
+-- ---- every state that calls reach from a fresh one is fit
+-- a state is reached by calls, accepted or refused
+pub data Reached (t : Table) : State → Type 0 where
+  started : Reached t (freshState t)
+  asks : {s : State} (id work : ℕ) → Reached t s → Reached t (requestCall s id work .state)
+  ticks : {s : State} → Reached t s → Reached t (tickCall s .state)
+  runs : {s : State} (k lent : ℕ) → Reached t s → Reached t (runCall s k lent .state)
+
+Kept : State → Type 0
+Kept s = (fit s ≡ true) × Sized s
+
+zeros-fit : (n : ℕ) (xs : List Task) → allWith leftFits xs (take n (replicate maxTasks 0)) ≡ true
+zeros-fit n xs = go n xs maxTasks
+  where
+    go : (n : ℕ) (xs : List Task) (m : ℕ) → allWith leftFits xs (take n (replicate m 0)) ≡ true
+    go zero [] m = refl
+    go zero (x ∷ xs) m = refl
+    go (suc n) [] m = refl
+    go (suc n) (x ∷ xs) zero = refl
+    go (suc n) (x ∷ xs) (suc m) = and-join _ _ (le-leb 0 (x .exec) (omega arith)) (go n xs m)
+
+fresh-budget : (k : Kind) (s : Server) → freshServer k s .budget ≤ s .budget
+fresh-budget background s = omega arith
+fresh-budget polling s = omega arith
+fresh-budget deferrable s = omega arith
+fresh-budget sporadic s = omega arith
+
+-- the fresh state of a table that passes
+pub fresh-fit : (t : Table) → passed (tableCheck t) ≡ true → fit (freshState t) ≡ true
+fresh-fit t e =
+    parts-fit (freshState t) (record {
+      table = e;
+      waiting = omega arith;
+      clock = omega arith;
+      lefts = zeros-fit (t .n) (taskSetOf t .tasks);
+      server = ok-server (t .server) 0 (freshServer (kindOf (t .server .kind)) (t .server)) (record { budget = fresh-budget (kindOf (t .server .kind)) (t .server); tr = omega arith; begin = omega arith; nr = omega arith });
+      requests = refl;
+    })
+
+request-kept : (s : State) (id work : ℕ) → Kept s → Kept (requestCall s id work .state)
+unfolding Kept
+request-kept s id work h = go (passed (requestCheck s work)) refl
+  where
+    go : (b : Bool) → passed (requestCheck s work) ≡ b → Kept (cond b (written s (asked id work (modelOf s))) s)
+    go true e = request-fit s id work (h .1) (request-accepted s work e)
+    go false e = h
+
+tick-kept : (s : State) → Kept s → Kept (tickCall s .state)
+unfolding Kept
+tick-kept s h = go (fit s) (h .0) (clockAllows s 1) refl
+  where
+    go : (a : Bool) → a ≡ true → (b : Bool) → clockAllows s 1 ≡ b →
+        Kept (tickBy (unless a Refusal.UnfitState (unless b Refusal.ClockSpent Checked.Passed)) s .state)
+    go true ea true eb = tick-fit s (h .1) (h .0) eb
+    go true ea false eb = h
+    go false ea b eb = never refl ea
+
+run-kept : (s : State) (k lent : ℕ) → Kept s → Kept (runCall s k lent .state)
+unfolding Kept
+run-kept s k lent h = go (fit s) (h .0) (clockAllows s k) refl (leb k lent)
+  where
+    go : (a : Bool) → a ≡ true → (b : Bool) → clockAllows s k ≡ b → (c : Bool) →
+        Kept (cond (passed (unless a Refusal.UnfitState (unless b Refusal.ClockSpent (unless c Refusal.ShortRecord Checked.Passed)))) (runState k s) s)
+    go true ea true eb true = run-fit k s (h .1) (h .0) eb
+    go true ea true eb false = h
+    go true ea false eb c = h
+    go false ea b eb c = never refl ea
+
+pub reached-fit : (t : Table) → length (t .tasks) ≡ maxTasks → passed (tableCheck t) ≡ true → (s : State) → Reached t s → (fit s ≡ true) × Sized s
+unfolding Kept
+reached-fit t z e s started = (fresh-fit t e, record { tasks = z; left = refl; requests = refl })
+reached-fit t z e s (asks {s = s₀} id work r) = request-kept s₀ id work (reached-fit t z e s₀ r)
+reached-fit t z e s (ticks {s = s₀} r) = tick-kept s₀ (reached-fit t z e s₀ r)
+reached-fit t z e s (runs {s = s₀} k lent r) = run-kept s₀ k lent (reached-fit t z e s₀ r)

@@ -1,0 +1,5 @@
+pub mod Kind
+pub mod Periodic
+pub mod Sporadic
+pub mod Server
+pub mod Cases

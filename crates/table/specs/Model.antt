@@ -1,0 +1,44 @@
+-- What the structs stand for: the tasks in use, what is left of each, the requests that wait, the server's state and the clock.
+-- The rules are defined over this model; the structs' unused slots are no part of it.
+use Prim.Native.Nat.{ℕ}
+use mathlib.Core.List.{List}
+use lib.ListN.{take}
+use Rattle.lists.specs.Lists.{overlay}
+use Rattle.server.specs.declared.Server.{Server}
+use Rattle.server.specs.declared.ServerState.{ServerState}
+use Rattle.queue.specs.declared.Request.{Request}
+use Rattle.queue.specs.Queue.{waitingOf, queueWith}
+use Rattle.table.specs.declared.Task.{Task}
+use Rattle.table.specs.declared.Table.{Table}
+use Rattle.table.specs.declared.State.{State}
+
+-- what never changes: the tasks, highest priority first, and the server
+pub record TaskSet : Type 0 where
+  pub tasks : List Task
+  pub server : Server
+
+-- what a call moves: each task's execution left, the requests in their order, the server's state, the clock
+pub record Model : Type 0 where
+  pub lefts : List ℕ
+  pub queue : List Request
+  pub server : ServerState
+  pub clock : ℕ
+
+abbrev pub taskSetOf : Table → TaskSet
+taskSetOf t = record { tasks = take (t .n) (t .tasks); server = t .server }
+
+abbrev pub modelOf : State → Model
+modelOf s = record {
+  lefts = take (s .table .n) (s .progress .left);
+  queue = waitingOf (s .queue);
+  server = s .progress .server;
+  clock = s .progress .clock;
+}
+
+-- the state with a model written over it: slots that the model does not reach keep what they held
+abbrev pub written : State → Model → State
+written s m = record {
+  table = s .table;
+  progress = record { left = overlay (m .lefts) (s .progress .left); server = m .server; clock = m .clock };
+  queue = queueWith (s .queue) (m .queue);
+}

@@ -1,0 +1,67 @@
+-- The fresh state, the fit state (refusal 11) and set-up.
+use Prim.Native.Nat.{ℕ}
+use mathlib.Core.Bool.{Bool, true, false, _&&_}
+use mathlib.Core.List.{List}
+use lib.ListN.{replicate}
+use lib.Dec.{leb}
+use Rattle.lists.specs.Lists.{allWith}
+use Rattle.server.specs.declared.Server.{Server}
+use Rattle.server.specs.declared.Sporadic.{Sporadic}
+use Rattle.server.specs.declared.ServerState.{ServerState}
+use Rattle.server.specs.Kind.{kindOf}
+use Rattle.server.specs.Server.{freshServer}
+use Rattle.queue.specs.Queue.{maxWaiting, freshQueue, requestsFit}
+use Rattle.table.specs.declared.Task.{Task}
+use Rattle.table.specs.declared.Table.{Table}
+use Rattle.table.specs.declared.State.{State}
+use Rattle.table.specs.declared.Checked.{Checked}
+use Rattle.table.specs.declared.SetUp.{SetUp}
+use Rattle.table.specs.Limits.{maxTasks, checkTable}
+use Rattle.table.specs.Refusal.{passed}
+use Rattle.table.specs.Model.{TaskSet, Model, taskSetOf, modelOf}
+
+-- "A fresh state .. its clock, times and marks are 0, and nothing is open or waiting."
+abbrev pub freshState : Table → State
+freshState t = record {
+  table = t;
+  progress = record { left = replicate maxTasks 0; server = freshServer (kindOf (t .server .kind)) (t .server); clock = 0 };
+  queue = freshQueue;
+}
+
+-- "The clock may stand at 0 to 4,000,000,000."
+abbrev pub lastClock : ℕ
+lastClock = 4_000_000_000
+
+abbrev pub lastNr : ℕ
+lastNr = 4_000_060_000
+
+-- refusals 1, 2 and 3 of a table
+abbrev pub tableCheck : Table → Checked
+tableCheck t = checkTable (taskSetOf t .tasks) (t .server) (t .n)
+
+-- Refusal 11: "a row's work above e"
+abbrev pub leftFits : Task → ℕ → Bool
+leftFits x l = leb l (x .exec)
+
+-- "b above B, .. tr or begin after the clock, or nr above 4,000,060,000"
+abbrev pub sporadicFits : ℕ → Sporadic → Bool
+sporadicFits clock x = leb (x .tr) clock && leb (x .begin) clock && leb (x .nr) lastNr
+
+abbrev pub serverStateFits : Server → ℕ → ServerState → Bool
+serverStateFits s clock x = leb (x .budget) (s .budget) && sporadicFits clock (x .sporadic)
+
+-- "a waiting work outside 1 to 60,000, .. a clock above its limit, an arrival .. after the clock"
+abbrev pub modelFits : TaskSet → Model → Bool
+modelFits p m =
+    leb (m .clock) lastClock && allWith leftFits (p .tasks) (m .lefts)
+    && serverStateFits (p .server) (m .clock) (m .server) && requestsFit (m .clock) (m .queue)
+
+-- "An 11 is a state whose table breaks 1 to 3, .. more than 64 waiting", or as above
+abbrev pub fit : State → Bool
+fit s =
+    passed (tableCheck (s .table)) && leb (s .queue .n) maxWaiting
+    && modelFits (taskSetOf (s .table)) (modelOf s)
+
+-- Set-up checks 1, 2, 3. Its state is the table's fresh state; that of a refused table is unfit.
+abbrev pub setUpCall : Table → SetUp
+setUpCall t = record { answer = tableCheck t; state = freshState t }

@@ -1,2 +1,4 @@
 pub mod Queue
+pub mod Steps
+pub mod Laws
 pub mod Cases

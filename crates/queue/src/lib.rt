@@ -1,12 +1,24 @@
 // The queue of requests, first come first served.
 ghost use mathlib.Core.Path.{_≡_};
-ghost use Rattle.queue.specs.Queue.{freshQueue};
+ghost use Prim.Native.Nat.{_≤_};
+ghost use lib.ListN.{drop};
+ghost use Rattle.queue.specs.Queue.{freshQueue, waitingOf, queueWith, requestFits};
+ghost use Rattle.queue.specs.Steps.{pushedQueue, servedQueue, queueFits};
 
 // Work that comes when it likes: an id, the ticks of work left, and the tick at which it was presented.
 pub struct Request {
     pub id: u32,
     pub work: u32,
     pub arrival: u32,
+}
+
+impl Request {
+    // The limits of a request that waits when the clock stands at `clock`.
+    pub fn fits(self, clock: u32) -> bool
+        ensures { λ r. ⌜ r ≡ requestFits clock self ⌝ }
+    {
+        (1 <= self.work) & (self.work <= Queue::MAX_WORK) & (self.arrival <= clock)
+    }
 }
 
 // The first n slots hold the requests that wait, the head first.
@@ -33,6 +45,85 @@ impl Queue {
         Queue {
             requests: [none; Queue::CAPACITY as usize],
             n: 0,
+        }
+    }
+
+    // A request more, at the end. A full queue stays as it is.
+    pub fn push(self, id: u32, work: u32, arrival: u32) -> Queue
+        ensures { λ r. ⌜ r ≡ pushedQueue self id work arrival ⌝ }
+    {
+        let n = self.n;
+        if Queue::CAPACITY <= n {
+            return self;
+        }
+        let at = n as usize;
+        let mut next = self;
+        next.requests[at] = Request { id, work, arrival };
+        next.n = n + 1;
+        next
+    }
+
+    // Step 5: the head loses one tick of work, and at zero it leaves. An empty queue stays as it is, and one whose count passes
+    // its slots.
+    pub fn serve(self) -> Queue
+        ensures { λ r. ⌜ r ≡ servedQueue self ⌝ }
+    {
+        let n = self.n;
+        if n < 1 {
+            return self;
+        }
+        if Queue::CAPACITY < n {
+            return self;
+        }
+        let mut head = self.requests[0];
+        let work = head.work;
+        if work <= 1 {
+            return self.without_head();
+        }
+        head.work = work - 1;
+        let mut next = self;
+        next.requests[0] = head;
+        next
+    }
+
+    // Refusal 11, of the queue: no more wait than there are slots, and each request that waits keeps its limits.
+    pub fn fits(self, clock: u32) -> bool
+        ensures { λ r. ⌜ r ≡ queueFits clock self ⌝ }
+    {
+        let n = self.n;
+        if Queue::CAPACITY < n {
+            return false;
+        }
+        let requests = self.requests;
+        let end = n as usize;
+        let mut i: usize = 0;
+        while i < end {
+            let request = requests[i];
+            if request.fits(clock) {
+                i += 1;
+            } else {
+                return false;
+            }
+        }
+        true
+    }
+
+    // The others move up by one slot; the last slot in use keeps what it held.
+    fn without_head(self) -> Queue
+        requires { ⌜ (1 ≤ self .n) × (self .n ≤ 64) ⌝ }
+        ensures { λ r. ⌜ r ≡ queueWith self (drop 1 (waitingOf self)) ⌝ }
+    {
+        let n = self.n as usize;
+        let mut requests = self.requests;
+        let mut i: usize = 0;
+        while i + 1 < n {
+            let next = requests[i + 1];
+            requests[i] = next;
+            i += 1;
+        }
+        Queue {
+            requests,
+            n: self.n - 1,
         }
     }
 }

@@ -14,8 +14,10 @@ use Rattle.lists.specs.Tests.{never, and-split, and-join}
 use Rattle.server.specs.declared.Server.{Server}
 use Rattle.server.specs.Kind.{Kind, background, polling, deferrable, sporadic, kindOf}
 use Rattle.server.specs.Server.{freshServer}
+use Rattle.server.specs.Within.{Within, within-later, replenish-within, consume-within}
 use Rattle.queue.specs.declared.Request.{Request}
-use Rattle.queue.specs.Queue.{maxWaiting, workFits, waitingOf, presented, requestFits, requestsFit}
+use Rattle.queue.specs.Queue.{maxWaiting, workFits, waitingOf, presented, requestsFit}
+use Rattle.queue.specs.Laws.{fit-later, fit-presented}
 use Rattle.table.specs.declared.Task.{Task}
 use Rattle.table.specs.declared.Table.{Table}
 use Rattle.table.specs.declared.State.{State}
@@ -25,13 +27,13 @@ use Rattle.table.specs.Limits.{maxTasks}
 use Rattle.table.specs.Refusal.{passed}
 use Rattle.table.specs.Model.{Model, taskSetOf, modelOf, written}
 use Rattle.table.specs.State.{lastClock, freshState, tableCheck, leftFits, fit}
-use Rattle.table.specs.Facts.{TableLimits, table-limits, FitState, fit-parts, parts-fit}
+use Rattle.table.specs.Facts.{TableFacts, table-facts, StateFacts, fit-facts, facts-fit}
 use Rattle.rules.specs.declared.Turn.{Turn}
 use Rattle.rules.specs.declared.Moved.{Moved}
 use Rattle.rules.specs.declared.Ticked.{Ticked}
 use Rattle.rules.specs.Tick.{opened, workedTasks, workedQueue, tick, turnAt, leftsAt, serverAt, seenAt, kindAt, busyAt}
 use Rattle.rules.specs.Calls.{unless, asked, requestCheck, requestCall, clockAllows, ticksCheck, ticked, stateAfter, tickCall, tickBy, runState, runCheck, runCall}
-use Rattle.rules.specs.Fitness.{ServerOk, server-ok, ok-server, replenish-ok, consume-ok, opened-fit, worked-fit, later-fit, queue-fit, queue-shorter}
+use Rattle.rules.specs.Fitness.{opened-fit, worked-fit, queue-fit, queue-shorter}
 
 -- ---- a model written over a state reads back as itself
 pub reads-written : (s : State) (m : Model) → length (m .lefts) ≡ s .table .n → modelOf (written s m) ≡ m
@@ -73,16 +75,16 @@ waiting-length n rs = omega (arith, length-take n rs)
 
 -- ---- a fit state's tick leaves it fit
 pub tick-fit : (s : State) → Sized s → fit s ≡ true → clockAllows s 1 ≡ true → (fit (stateAfter s) ≡ true) × Sized (stateAfter s)
-tick-fit s z e c = (parts-fit (stateAfter s) after, written-sized s (ticked s .next) z (omega (arith, len, limits .most)) (omega (arith, short, h .waiting)))
+tick-fit s z e c = (facts-fit (stateAfter s) after, written-sized s (ticked s .next) z (omega (arith, len, limits .count)) (omega (arith, short, h .waiting)))
   where
-    h : FitState s
-    h = fit-parts s e
+    h : StateFacts s
+    h = fit-facts s e
 
-    limits : TableLimits (s .table)
-    limits = table-limits (s .table) (h .table)
+    limits : TableFacts (s .table)
+    limits = table-facts (s .table) (h .passes)
 
     len : length (ticked s .next .lefts) ≡ s .table .n
-    len = ticked-length s z (limits .most)
+    len = ticked-length s z (limits .count)
 
     reads : modelOf (stateAfter s) ≡ ticked s .next
     reads = reads-written s (ticked s .next) len
@@ -93,39 +95,30 @@ tick-fit s z e c = (parts-fit (stateAfter s) after, written-sized s (ticked s .n
     short : length (ticked s .next .queue) ≤ s .queue .n
     short = omega (arith, queue-shorter (turnAt (taskSetOf (s .table)) (modelOf s)) (modelOf s .queue), waiting-length (s .queue .n) (s .queue .requests))
 
-    soon : s .progress .clock < lastClock
-    soon = omega (arith, early)
+    kept : Within (s .table .server) (s .progress .clock + 1) (ticked s .next .server)
+    kept =
+        within-later (s .table .server) (s .progress .clock) (ticked s .next .server)
+        (consume-within (kindAt (taskSetOf (s .table))) (s .table .server) (serverAt (taskSetOf (s .table)) (modelOf s)) (seenAt (taskSetOf (s .table)) (modelOf s))
+        (limits .server .period) (h .clock)
+        (replenish-within (kindAt (taskSetOf (s .table))) (s .table .server) (s .progress .server) (s .progress .clock) (busyAt (taskSetOf (s .table)) (modelOf s)) (h .server)))
 
-    served : ServerOk (s .table .server) (s .progress .clock + 1) (ticked s .next .server)
-    served =
-        consume-ok (kindAt (taskSetOf (s .table))) (s .table .server) (serverAt (taskSetOf (s .table)) (modelOf s)) (seenAt (taskSetOf (s .table)) (modelOf s))
-        (limits .server .period) soon
-        (replenish-ok (kindAt (taskSetOf (s .table))) (s .table .server) (s .progress .server) (s .progress .clock) (busyAt (taskSetOf (s .table)) (modelOf s))
-        (server-ok (s .table .server) (s .progress .clock) (s .progress .server) (h .server)))
-
-    after : FitState (stateAfter s)
+    after : StateFacts (stateAfter s)
     after = record {
-      table = h .table;
+      passes = h .passes;
       waiting = omega (arith, short, h .waiting);
       clock = early;
       lefts =
           subst (λ (m : Model). allWith leftFits (taskSetOf (s .table) .tasks) (m .lefts) ≡ true) (sym reads)
           (worked-fit (turnAt (taskSetOf (s .table)) (modelOf s)) (taskSetOf (s .table) .tasks) (leftsAt (taskSetOf (s .table)) (modelOf s))
           (opened-fit (s .progress .clock) (taskSetOf (s .table) .tasks) (modelOf s .lefts) (h .lefts)));
-      server = ok-server (s .table .server) (s .progress .clock + 1) (ticked s .next .server) served;
+      server = kept;
       requests =
           subst (λ (m : Model). requestsFit (s .progress .clock + 1) (m .queue) ≡ true) (sym reads)
           (queue-fit (turnAt (taskSetOf (s .table)) (modelOf s)) (s .progress .clock + 1) (modelOf s .queue)
-          (later-fit (s .progress .clock) (modelOf s .queue) (h .requests)));
+          (fit-later (s .progress .clock) (modelOf s .queue) (h .requests)));
     }
 
 -- ---- an accepted request leaves it fit
-requests-append : (c : ℕ) (q : List Request) (r : Request) → requestsFit c q ≡ true → requestFits c r ≡ true → requestsFit c (q ++ (r ∷ [])) ≡ true
-requests-append c [] r e f = and-join _ _ f refl
-requests-append c (x ∷ q) r e f =
-    let a = and-split (requestFits c x) _ e in
-    and-join _ _ (a .0) (requests-append c q r (a .1) f)
-
 -- what an accepted request has passed
 pub record Accepted (s : State) (work : ℕ) : Type 0 where
   pub fits : fit s ≡ true
@@ -145,18 +138,18 @@ request-accepted s work e = go (fit s) refl (workFits work) refl (ltb (s .queue 
 pub request-fit : (s : State) (id work : ℕ) → Sized s → Accepted s work →
     (fit (written s (asked id work (modelOf s))) ≡ true) × Sized (written s (asked id work (modelOf s)))
 request-fit s id work z ok = (
-  parts-fit (written s (asked id work (modelOf s))) after,
-  written-sized s (asked id work (modelOf s)) z (omega (arith, len, limits .most)) (omega (arith, more, ok .room)),
+  facts-fit (written s (asked id work (modelOf s))) after,
+  written-sized s (asked id work (modelOf s)) z (omega (arith, len, limits .count)) (omega (arith, more, ok .room)),
 )
   where
-    h : FitState s
-    h = fit-parts s (ok .fits)
+    h : StateFacts s
+    h = fit-facts s (ok .fits)
 
-    limits : TableLimits (s .table)
-    limits = table-limits (s .table) (h .table)
+    limits : TableFacts (s .table)
+    limits = table-facts (s .table) (h .passes)
 
     len : length (modelOf s .lefts) ≡ s .table .n
-    len = length-take-le _ _ (rw (z .left) (limits .most))
+    len = length-take-le _ _ (rw (z .left) (limits .count))
 
     more : length (asked id work (modelOf s) .queue) ≤ suc (s .queue .n)
     more = simp length-append (omega (arith, waiting-length (s .queue .n) (s .queue .requests)))
@@ -164,17 +157,16 @@ request-fit s id work z ok = (
     reads : modelOf (written s (asked id work (modelOf s))) ≡ asked id work (modelOf s)
     reads = reads-written s (asked id work (modelOf s)) len
 
-    after : FitState (written s (asked id work (modelOf s)))
+    after : StateFacts (written s (asked id work (modelOf s)))
     after = record {
-      table = h .table;
+      passes = h .passes;
       waiting = omega (arith, more, ok .room);
       clock = h .clock;
       lefts = subst (λ (m : Model). allWith leftFits (taskSetOf (s .table) .tasks) (m .lefts) ≡ true) (sym reads) (h .lefts);
       server = h .server;
       requests =
           subst (λ (m : Model). requestsFit (s .progress .clock) (m .queue) ≡ true) (sym reads)
-          (requests-append (s .progress .clock) (modelOf s .queue) (record { id = id; work = work; arrival = s .progress .clock }) (h .requests)
-          (and-join _ _ (ok .allowed) (le-leb (s .progress .clock) (s .progress .clock) (omega arith))));
+          (fit-presented (s .progress .clock) id work (modelOf s .queue) (ok .allowed) (h .requests));
     }
 
 -- ---- a fit state's run leaves it fit
@@ -215,12 +207,15 @@ fresh-budget sporadic s = omega arith
 -- the fresh state of a table that passes
 pub fresh-fit : (t : Table) → passed (tableCheck t) ≡ true → fit (freshState t) ≡ true
 fresh-fit t e =
-    parts-fit (freshState t) (record {
-      table = e;
+    facts-fit (freshState t) (record {
+      passes = e;
       waiting = omega arith;
       clock = omega arith;
       lefts = zeros-fit (t .n) (taskSetOf t .tasks);
-      server = ok-server (t .server) 0 (freshServer (kindOf (t .server .kind)) (t .server)) (record { budget = fresh-budget (kindOf (t .server .kind)) (t .server); tr = omega arith; begin = omega arith; nr = omega arith });
+      server = record {
+        budget = fresh-budget (kindOf (t .server .kind)) (t .server);
+        times = record { tr = omega arith; begin = omega arith; nr = omega arith };
+      };
       requests = refl;
     })
 

@@ -1,7 +1,13 @@
-// The server: its parameters, its state, and what a tick shows it.
+// The server: its parameters, its state, and what a tick shows it and does to it. A file for each kind has that kind's rules.
 ghost use mathlib.Core.Path.{_≡_};
 ghost use Rattle.server.specs.Kind.{kindOf};
-ghost use Rattle.server.specs.Server.{freshServer};
+ghost use Rattle.server.specs.Server.{freshServer, replenish};
+ghost use Rattle.server.specs.Consumed.{consumed};
+
+mod deferrable;
+mod periodic;
+mod polling;
+mod simple_sporadic;
 
 // The server of a table. kind: 0 background, 1 polling, 2 deferrable, 3 simple sporadic. place (document 01's s): how many
 // tasks stand above it. period is document 01's P, budget its B.
@@ -78,6 +84,34 @@ impl Server {
                 budget: 0,
                 sporadic,
             },
+        }
+    }
+}
+
+impl ServerState {
+    // Step 3, at tick t; busy: some task is open.
+    pub fn replenish(self, server: Server, t: u32, busy: bool) -> ServerState
+        ensures { λ r. ⌜ r ≡ replenish (kindOf (server .kind)) server self t busy ⌝ }
+    {
+        let kind = server.kind;
+        match kind {
+            1 => periodic::replenish(self, server, t),
+            2 => periodic::replenish(self, server, t),
+            3 => simple_sporadic::replenish(self, server, t, busy),
+            _ => self,
+        }
+    }
+
+    // Step 5. Where the next replenishment would pass 32 bits, which no fit state's does, the state stays as it is.
+    pub fn consume(self, server: Server, seen: Seen) -> ServerState
+        ensures { λ r. ⌜ r ≡ consumed server self seen ⌝ }
+    {
+        let kind = server.kind;
+        match kind {
+            1 => polling::consume(self, seen),
+            2 => deferrable::consume(self, seen),
+            3 => simple_sporadic::consume(self, server, seen),
+            _ => self,
         }
     }
 }

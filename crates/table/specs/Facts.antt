@@ -1,156 +1,192 @@
--- What the tests say, as facts that arithmetic reads: of a task, of a server, of a table that passes, of a fit state.
+-- The limits as facts that `omega` reads: of a task, of a server, of a table that passes, and of a fit state.
 use Prim.Native.Nat.{ℕ, zero, suc, _≤_, _<_}
 use native.Mathlib.Omega.{arith}
-use native.Mathlib.Nat.{not-suc-le-zero, le-of-suc-le-suc}
-use mathlib.Core.Path.{_≡_, refl, sym, _∙_}
+use mathlib.Core.Path.{_≡_, refl}
 use mathlib.Core.Bool.{Bool, true, false, cond, _&&_}
 use mathlib.Core.List.{List, [], _∷_}
+use borrow.Author.Tests.{leb-true, eqb-true, ltb-false, le-leb}
 use lib.ListN.{length, take, getD}
 use lib.Dec.{leb, ltb}
-use borrow.Author.Tests.{leb-true, le-leb, eqb-true, ltb-false}
-use Rattle.lists.specs.Lists.{allWith}
-use Rattle.lists.specs.Tests.{between, every, Every, every-facts, facts-every, never, and-split, and-join}
+use Rattle.lists.specs.Lists.{all, allWith}
+use Rattle.lists.specs.Tests.{Every, between, every, every-facts, and-split, and-join, never}
+use Rattle.lists.specs.Loops.{all-at, all-with-at}
 use Rattle.server.specs.declared.Server.{Server}
-use Rattle.server.specs.Kind.{Kind, background, polling, deferrable, sporadic, kindOf}
-use Rattle.queue.specs.Queue.{maxWaiting, requestsFit}
+use Rattle.server.specs.declared.ServerState.{ServerState}
+use Rattle.server.specs.Kind.{kindOf}
+use Rattle.server.specs.Within.{Within}
+use Rattle.queue.specs.Queue.{waitingOf, requestsFit}
 use Rattle.table.specs.declared.Task.{Task}
 use Rattle.table.specs.declared.Table.{Table}
 use Rattle.table.specs.declared.State.{State}
-use Rattle.table.specs.declared.Checked.{Checked}
 use Rattle.table.specs.declared.Refusal.{Refusal}
-use Rattle.table.specs.Limits.{maxTasks, maxTime, lastKind, taskTests, taskFits, firstBad, budgetTests, backgroundTests, serverTests, serverFits, checkServer, checkTasks, checkTable}
+use Rattle.table.specs.declared.Checked.{Checked}
+use Rattle.table.specs.Limits.{maxTasks, taskTests, taskFits, firstBad, serverTests, backgroundTests, budgetTests, serverFits, checkServer, checkTasks}
 use Rattle.table.specs.Refusal.{passed}
-use Rattle.table.specs.Model.{Model, taskSetOf, modelOf}
-use Rattle.table.specs.State.{lastClock, tableCheck, leftFits, serverStateFits, modelFits, fit}
+use Rattle.table.specs.State.{lastClock, lastNr, tableCheck, leftFits, sporadicFits, serverStateFits, modelFits, fit}
+use Rattle.table.specs.Model.{taskSetOf, modelOf}
 
 -- ---- a task
 pub record TaskLimits (x : Task) : Type 0 where
   pub some : 1 ≤ x .exec
   pub within : x .exec ≤ x .deadline
   pub constrained : x .deadline ≤ x .period
-  pub period : x .period ≤ maxTime
-  pub phase : x .phase ≤ maxTime
+  pub period : x .period ≤ 60_000
+  pub phase : x .phase ≤ 60_000
 
 pub task-limits : (x : Task) → taskFits x ≡ true → TaskLimits x
 task-limits x e = let h : Every (taskTests x) = every-facts (taskTests x) e in omega (arith, leb-true)
-
-pub limits-task : (x : Task) → TaskLimits x → taskFits x ≡ true
-limits-task x h = facts-every (taskTests x) (search le-leb)
 
 -- what stands past the end of the tasks
 abbrev pub noTask : Task
 noTask = record { phase = 0; period = 0; exec = 0; deadline = 0 }
 
--- none is bad: each one fits
-pub none-bad : (xs : List Task) → length xs ≤ firstBad xs → (i : ℕ) → i < length xs → taskFits (getD xs i noTask) ≡ true
-none-bad [] h i b = absurd (not-suc-le-zero b)
-none-bad (x ∷ xs) h i b = go (taskFits x) refl h i b (λ k j c. none-bad xs k j c)
-  where
-    go : (c : Bool) → taskFits x ≡ c → suc (length xs) ≤ cond c (suc (firstBad xs)) 0 → (i : ℕ) → i < suc (length xs) →
-        (length xs ≤ firstBad xs → (j : ℕ) → j < length xs → taskFits (getD xs j noTask) ≡ true) → taskFits (getD (x ∷ xs) i noTask) ≡ true
-    go true e h zero b ih = e
-    go true e h (suc i) b ih = ih (le-of-suc-le-suc h) i (le-of-suc-le-suc b)
-    go false e h i b ih = absurd (not-suc-le-zero h)
-
--- ---- a server
+-- ---- a server: kind 0 has no period and no budget, the others have both
 pub record ServerLimits (s : Server) (n : ℕ) : Type 0 where
-  pub kind : s .kind ≤ lastKind
+  pub kind : s .kind ≤ 3
   pub place : s .place ≤ n
-  pub budget : s .budget ≤ s .period
-  pub period : s .period ≤ maxTime
-  pub some : (s .kind ≡ 0 → ⊥) → 1 ≤ s .budget
+  pub within : s .budget ≤ s .period
+  pub period : s .period ≤ 60_000
+  pub some : 0 < s .kind → 1 ≤ s .budget
+
+abbrev LimitsAt : Server → ℕ → ℕ → Type 0
+LimitsAt s n k = (s .place ≤ n) × (s .budget ≤ s .period) × (s .period ≤ 60_000) × (0 < k → 1 ≤ s .budget)
 
 pub server-limits : (s : Server) (n : ℕ) → serverFits s n ≡ true → ServerLimits s n
-server-limits s n e = go (s .kind) refl (a .1)
+server-limits s n e =
+    let both = and-split (leb (s .kind) 3) (every (serverTests (kindOf (s .kind)) s n)) e in
+    let kind = leb-true (s .kind) 3 (both .0) in
+    let rest = by (s .kind) kind (both .1) in
+    record { kind = kind; place = rest .0; within = rest .1; period = rest .2; some = rest .3 }
   where
-    a : (leb (s .kind) lastKind ≡ true) × (every (serverTests (kindOf (s .kind)) s n) ≡ true)
-    a = and-split (leb (s .kind) lastKind) _ e
+    budgeted : (k : ℕ) → every (budgetTests s n) ≡ true → LimitsAt s n k
+    budgeted k e =
+        let h : Every (budgetTests s n) = every-facts (budgetTests s n) e in
+        (leb-true _ _ (h .0), leb-true _ _ (h .1 .1 .0), leb-true _ _ (h .1 .1 .1 .0), λ p. leb-true _ _ (h .1 .0))
 
-    k : s .kind ≤ lastKind
-    k = leb-true _ _ (a .0)
+    by : (k : ℕ) → k ≤ 3 → every (serverTests (kindOf k) s n) ≡ true → LimitsAt s n k
+    by zero k e =
+        let h : Every (backgroundTests s n) = every-facts (backgroundTests s n) e in
+        let place = eqb-true (s .place) n (h .0) in
+        let period = eqb-true (s .period) 0 (h .1 .0) in
+        let budget = eqb-true (s .budget) 0 (h .1 .1 .0) in
+        (omega arith, omega arith, omega arith, λ p. absurd (omega arith))
+    by (suc zero) k e = budgeted 1 e
+    by (suc (suc zero)) k e = budgeted 2 e
+    by (suc (suc (suc zero))) k e = budgeted 3 e
+    by (suc (suc (suc (suc j)))) k e = absurd (omega arith)
 
-    running : every (budgetTests s n) ≡ true → ServerLimits s n
-    running t =
-        let h : Every (budgetTests s n) = every-facts (budgetTests s n) t in
-        record {
-          kind = k;
-          place = leb-true _ _ (h .0);
-          budget = leb-true _ _ (h .1 .1 .0);
-          period = leb-true _ _ (h .1 .1 .1 .0);
-          some = λ _. leb-true _ _ (h .1 .0);
-        }
-
-    resting : s .kind ≡ 0 → every (backgroundTests s n) ≡ true → ServerLimits s n
-    resting z t =
-        let h : Every (backgroundTests s n) = every-facts (backgroundTests s n) t in
-        let p : s .place ≡ n = eqb-true _ _ (h .0) in
-        let q : s .period ≡ 0 = eqb-true _ _ (h .1 .0) in
-        let b : s .budget ≡ 0 = eqb-true _ _ (h .1 .1 .0) in
-        record { kind = k; place = omega arith; budget = omega arith; period = omega arith; some = λ f. absurd (f z) }
-
-    go : (m : ℕ) → s .kind ≡ m → every (serverTests (kindOf m) s n) ≡ true → ServerLimits s n
-    go zero z t = resting z t
-    go (suc zero) z t = running t
-    go (suc (suc zero)) z t = running t
-    go (suc (suc (suc zero))) z t = running t
-    go (suc (suc (suc (suc m)))) z t = absurd (omega (arith, k))
-
--- ---- a table that passes 1, 2 and 3
-pub record TableLimits (t : Table) : Type 0 where
+-- ---- a table that passes refusals 1, 2 and 3
+pub record TableFacts (t : Table) : Type 0 where
   pub some : 1 ≤ t .n
-  pub most : t .n ≤ maxTasks
-  pub tasks : (i : ℕ) → i < length (take (t .n) (t .tasks)) → TaskLimits (getD (take (t .n) (t .tasks)) i noTask)
+  pub count : t .n ≤ 16
+  pub tasks : all taskFits (take (t .n) (t .tasks)) ≡ true
   pub server : ServerLimits (t .server) (t .n)
 
-pub table-limits : (t : Table) → passed (tableCheck t) ≡ true → TableLimits t
-table-limits t e = counted (between 1 maxTasks (t .n)) refl e
+-- no task is the first bad one: all keep their limits
+none-bad : (xs : List Task) → length xs ≤ firstBad xs → all taskFits xs ≡ true
+none-bad [] h = refl
+none-bad (x ∷ xs) h = by (taskFits x) h (none-bad xs)
   where
-    xs : List Task
-    xs = take (t .n) (t .tasks)
+    by : (b : Bool) → suc (length xs) ≤ cond b (suc (firstBad xs)) 0 → (length xs ≤ firstBad xs → all taskFits xs ≡ true) →
+        b && all taskFits xs ≡ true
+    by true h rest = rest (omega arith)
+    by false h rest = absurd (omega arith)
 
-    served : (b : Bool) → serverFits (t .server) (t .n) ≡ b → passed (cond b Checked.Passed (Checked.Refused Refusal.BadServer)) ≡ true →
-        serverFits (t .server) (t .n) ≡ true
-    served true f p = f
-    served false f p = never refl p
+-- a check that passes took the way on at a test
+went-on : (b : Bool) (later : Checked) (r : Refusal) → passed (cond b later (Checked.Refused r)) ≡ true →
+    (b ≡ true) × (passed later ≡ true)
+went-on true later r e = (refl, e)
+went-on false later r e = never refl e
 
-    tasked : (b : Bool) → ltb (firstBad xs) (length xs) ≡ b →
-        passed (cond b (Checked.Refused (Refusal.BadTask (firstBad xs))) (checkServer (t .server) (t .n))) ≡ true →
-        (length xs ≤ firstBad xs) × (serverFits (t .server) (t .n) ≡ true)
-    tasked true f p = never refl p
-    tasked false f p = (ltb-false _ _ f, served (serverFits (t .server) (t .n)) refl p)
+went-past : (b : Bool) (later : Checked) (r : Refusal) → passed (cond b (Checked.Refused r) later) ≡ true →
+    (b ≡ false) × (passed later ≡ true)
+went-past true later r e = never refl e
+went-past false later r e = (refl, e)
 
-    counted : (b : Bool) → between 1 maxTasks (t .n) ≡ b →
-        passed (cond b (checkTasks xs (t .server) (t .n)) (Checked.Refused Refusal.TaskCount)) ≡ true → TableLimits t
-    counted false f p = never refl p
-    counted true f p =
-        let n = and-split (leb 1 (t .n)) _ f in
-        let r = tasked (ltb (firstBad xs) (length xs)) refl p in
-        record {
-          some = leb-true _ _ (n .0);
-          most = leb-true _ _ (n .1);
-          tasks = λ i b. task-limits (getD xs i noTask) (none-bad xs (r .0) i b);
-          server = server-limits (t .server) (t .n) (r .1);
-        }
+pub table-facts : (t : Table) → passed (tableCheck t) ≡ true → TableFacts t
+table-facts t e =
+    let xs = take (t .n) (t .tasks) in
+    let first = went-on (between 1 maxTasks (t .n)) (checkTasks xs (t .server) (t .n)) Refusal.TaskCount e in
+    let count = and-split (leb 1 (t .n)) (leb (t .n) maxTasks) (first .0) in
+    let second = went-past (ltb (firstBad xs) (length xs)) (checkServer (t .server) (t .n)) (Refusal.BadTask (firstBad xs)) (first .1) in
+    let third = went-on (serverFits (t .server) (t .n)) Checked.Passed Refusal.BadServer (second .1) in
+    record {
+      some = leb-true _ _ (count .0);
+      count = leb-true _ _ (count .1);
+      tasks = none-bad xs (ltb-false _ _ (second .0));
+      server = server-limits (t .server) (t .n) (third .0);
+    }
 
--- ---- a fit state, part by part
-pub record FitState (s : State) : Type 0 where
-  pub table : passed (tableCheck (s .table)) ≡ true
-  pub waiting : s .queue .n ≤ maxWaiting
-  pub clock : s .progress .clock ≤ lastClock
-  pub lefts : allWith leftFits (taskSetOf (s .table) .tasks) (modelOf s .lefts) ≡ true
-  pub server : serverStateFits (s .table .server) (s .progress .clock) (s .progress .server) ≡ true
-  pub requests : requestsFit (s .progress .clock) (modelOf s .queue) ≡ true
+-- a task in use
+pub task-at : (t : Table) (i : ℕ) → TableFacts t → i < t .n → i < length (t .tasks) → TaskLimits (getD (t .tasks) i noTask)
+task-at t i f h k = task-limits _ (all-at taskFits noTask i (t .n) (t .tasks) h k (f .tasks))
 
-pub fit-parts : (s : State) → fit s ≡ true → FitState s
-fit-parts s e =
-    let a = and-split (passed (tableCheck (s .table)) && leb (s .queue .n) maxWaiting) _ e in
-    let b = and-split (passed (tableCheck (s .table))) _ (a .0) in
-    let c = and-split (leb (s .progress .clock) lastClock && allWith leftFits (taskSetOf (s .table) .tasks) (modelOf s .lefts) && serverStateFits (s .table .server) (s .progress .clock) (s .progress .server)) _ (a .1) in
-    let d = and-split (leb (s .progress .clock) lastClock && allWith leftFits (taskSetOf (s .table) .tasks) (modelOf s .lefts)) _ (c .0) in
-    let f = and-split (leb (s .progress .clock) lastClock) _ (d .0) in
-    record { table = b .0; waiting = leb-true _ _ (b .1); clock = leb-true _ _ (f .0); lefts = f .1; server = d .1; requests = c .1 }
+-- ---- a fit state
+pub record StateFacts (s : State) : Type 0 where
+  pub passes : passed (tableCheck (s .table)) ≡ true
+  pub clock : s .progress .clock ≤ 4_000_000_000
+  pub lefts : allWith leftFits (take (s .table .n) (s .table .tasks)) (take (s .table .n) (s .progress .left)) ≡ true
+  pub server : Within (s .table .server) (s .progress .clock) (s .progress .server)
+  pub waiting : s .queue .n ≤ 64
+  pub requests : requestsFit (s .progress .clock) (waitingOf (s .queue)) ≡ true
 
-pub parts-fit : (s : State) → FitState s → fit s ≡ true
-parts-fit s h =
-    and-join _ _ (and-join _ _ (h .table) (le-leb _ _ (h .waiting)))
-    (and-join _ _ (and-join _ _ (and-join _ _ (le-leb _ _ (h .clock)) (h .lefts)) (h .server)) (h .requests))
+pub server-within : (s : Server) (clock : ℕ) (x : ServerState) → serverStateFits s clock x ≡ true → Within s clock x
+server-within s clock x e =
+    let b = and-split (leb (x .budget) (s .budget)) (sporadicFits clock (x .sporadic)) e in
+    let n = and-split (leb (x .sporadic .tr) clock && leb (x .sporadic .begin) clock) (leb (x .sporadic .nr) lastNr) (b .1) in
+    let t = and-split (leb (x .sporadic .tr) clock) (leb (x .sporadic .begin) clock) (n .0) in
+    record {
+      budget = leb-true _ _ (b .0);
+      times = record { tr = leb-true _ _ (t .0); begin = leb-true _ _ (t .1); nr = leb-true _ _ (n .1) };
+    }
+
+pub within-server : (s : Server) (clock : ℕ) (x : ServerState) → Within s clock x → serverStateFits s clock x ≡ true
+within-server s clock x w =
+    and-join (leb (x .budget) (s .budget)) (sporadicFits clock (x .sporadic)) (le-leb _ _ (w .budget))
+    (and-join (leb (x .sporadic .tr) clock && leb (x .sporadic .begin) clock) (leb (x .sporadic .nr) lastNr)
+    (and-join (leb (x .sporadic .tr) clock) (leb (x .sporadic .begin) clock) (le-leb _ _ (w .times .tr)) (le-leb _ _ (w .times .begin)))
+    (le-leb _ _ (w .times .nr)))
+
+module _ (s : State) where
+  abbrev clockFits : Bool
+  clockFits = leb (s .progress .clock) lastClock
+
+  abbrev leftsFit : Bool
+  leftsFit = allWith leftFits (take (s .table .n) (s .table .tasks)) (take (s .table .n) (s .progress .left))
+
+  abbrev budgetFits : Bool
+  budgetFits = serverStateFits (s .table .server) (s .progress .clock) (s .progress .server)
+
+  abbrev waitingFit : Bool
+  waitingFit = requestsFit (s .progress .clock) (waitingOf (s .queue))
+
+  pub fit-facts : fit s ≡ true → StateFacts s
+  fit-facts e =
+      let a = and-split (passed (tableCheck (s .table)) && leb (s .queue .n) 64) (modelFits (taskSetOf (s .table)) (modelOf s)) e in
+      let b = and-split (passed (tableCheck (s .table))) (leb (s .queue .n) 64) (a .0) in
+      let r = and-split (clockFits && leftsFit && budgetFits) waitingFit (a .1) in
+      let v = and-split (clockFits && leftsFit) budgetFits (r .0) in
+      let c = and-split clockFits leftsFit (v .0) in
+      record {
+        passes = b .0;
+        clock = leb-true _ _ (c .0);
+        lefts = c .1;
+        server = server-within (s .table .server) (s .progress .clock) (s .progress .server) (v .1);
+        waiting = leb-true _ _ (b .1);
+        requests = r .1;
+      }
+
+  pub facts-fit : StateFacts s → fit s ≡ true
+  facts-fit f =
+      and-join (passed (tableCheck (s .table)) && leb (s .queue .n) 64) (modelFits (taskSetOf (s .table)) (modelOf s))
+      (and-join (passed (tableCheck (s .table))) (leb (s .queue .n) 64) (f .passes) (le-leb _ _ (f .waiting)))
+      (and-join (clockFits && leftsFit && budgetFits) waitingFit
+      (and-join (clockFits && leftsFit) budgetFits (and-join clockFits leftsFit (le-leb _ _ (f .clock)) (f .lefts))
+      (within-server (s .table .server) (s .progress .clock) (s .progress .server) (f .server)))
+      (f .requests))
+
+  -- what is left of a task in use
+  pub left-at : (i : ℕ) → StateFacts s → i < s .table .n → i < length (s .table .tasks) → i < length (s .progress .left) →
+      getD (s .progress .left) i 0 ≤ getD (s .table .tasks) i noTask .exec
+  left-at i f h k m =
+      leb-true _ _ (all-with-at leftFits noTask 0 i (s .table .n) (s .table .tasks) (s .progress .left) h k m (f .lefts))

@@ -1,5 +1,4 @@
 -- `Server::fresh` meets its contract: each arm of the match is the definition's clause for that kind.
-use borrow.Author.Needs.{needs}
 use Rattle.server.specs.Kind.{kind-other}
 use Rattle.server.proofs.Server.fresh.Statement.{statement}
 use Rattle.server.proofs.Server.fresh.Tie as tie

@@ -1,0 +1,91 @@
+-- `Queue::fits` meets its contract: the first i requests passed, and one that does not decides.
+use lib.Dec.{leb}
+use Prim.Native.Nat.{_≤_, _-_}
+use native.Mathlib.Omega.{arith}
+use native.Mathlib.Numerals.{add-one}
+use mathlib.Core.Path.{_≡_, refl, sym, _∙_}
+use mathlib.Core.Bool.{true}
+use lib.ListN.{length, take, length-map}
+use borrow.Author.Needs.{needs}
+use borrow.Author.Tests.{le-leb, lt-leb}
+use Rattle.lists.specs.Lists.{all}
+use Rattle.lists.specs.Loops.{all-step, all-fails, and-false}
+use Rattle.queue.specs.Queue.{requestFits}
+use Rattle.queue.proofs.Queue.fits.Statement.{statement}
+use Rattle.queue.proofs.Queue.fits.Tie as tie
+
+abbrev Inv-loop : tie.InvT-loop
+Inv-loop clock n requests end i₀ i = (i ≤ n) × (all (requestFits clock) (take i requests) ≡ true)
+
+abbrev μ-loop : tie.MeasureT-loop
+μ-loop clock n requests end i₀ i = n - i
+
+returns : tie.Need-returns Inv-loop μ-loop
+returns c = rw (lt-leb _ _ (c .if1 .taken))
+
+cast-end : tie.Need-cast-end Inv-loop μ-loop
+cast-end c = search needs
+
+loop-holds : tie.Need-loop-holds Inv-loop μ-loop
+loop-holds c = (omega arith, refl)
+
+mul-request : tie.Need-mul-request Inv-loop μ-loop
+mul-request c = search needs
+
+array-copy-out-request : tie.Need-array-copy-out-request Inv-loop μ-loop
+array-copy-out-request c = search needs
+
+fits-requires : tie.Need-fits-requires Inv-loop μ-loop
+fits-requires c κs = search needs
+
+add-i : tie.Need-add-i Inv-loop μ-loop
+add-i c = search needs
+
+loop-less : tie.Need-loop-less Inv-loop μ-loop
+loop-less c = search needs
+
+loop-again : tie.Need-loop-again Inv-loop μ-loop
+loop-again c =
+    let a = c .before .before .before .before in
+    let s = a .before .before .before in
+    let l : length (s .args .self .requests) ≡ 64 = simp length-map at (s .good .0 .1 .1 .0 .1 .0 .1) in (
+      omega arith,
+      rw add-one
+          (all-step (requestFits (s .args .clock)) _ (a .loop .i) (s .args .self .requests) (omega arith) (a .loop .inv .1)
+          (sym (c .before .fits2 .ensures) ∙ c .if2 .taken)),
+    )
+
+returns-2 : tie.Need-returns-2 Inv-loop μ-loop
+returns-2 c =
+    let a = c .before .before .before .before in
+    let s = a .before .before .before in
+    let q = s .args .self in
+    let l : length (q .requests) ≡ 64 = simp length-map at (s .good .0 .1 .1 .0 .1 .0 .1) in
+    rw (all-fails (requestFits (s .args .clock)) _ (a .loop .i) (q .n) (q .requests) (omega arith) (omega arith)
+    (sym (c .before .fits2 .ensures) ∙ c .if2 .left))
+    (sym (and-false (leb (q .n) 64)))
+
+returns-3 : tie.Need-returns-3 Inv-loop μ-loop
+returns-3 c =
+    let a = c .before in
+    let q = a .before .before .before .args .self in
+    let e : a .loop .i ≡ q .n = omega arith in
+    rw (le-leb (q .n) 64 (omega arith)) (sym (rw e at (a .loop .inv .1)))
+
+pub fits-spec : {M : Type 1} → statement M
+fits-spec =
+    tie.close
+    (tie.spec
+    Inv-loop
+    μ-loop
+    returns
+    cast-end
+    loop-holds
+    mul-request
+    array-copy-out-request
+    fits-requires
+    add-i
+    loop-less
+    loop-again
+    returns-2
+    returns-3)

@@ -3,3 +3,4 @@ pub mod Demand
 pub mod Admission
 pub mod Laws
 pub mod Cases
+pub mod Bounds

@@ -2,3 +2,5 @@ pub mod Lists
 pub mod Loops
 pub mod Tests
 pub mod Time
+pub mod Count
+pub mod Stretch

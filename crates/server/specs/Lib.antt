@@ -4,4 +4,8 @@ pub mod Sporadic
 pub mod Server
 pub mod Consumed
 pub mod Within
+pub mod Account
+pub mod SupplyPolling
+pub mod SupplyDeferrable
+pub mod SupplySporadic
 pub mod Cases

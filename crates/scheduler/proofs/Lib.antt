@@ -1,0 +1,4 @@
+pub mod Laws
+pub mod Together
+pub mod Answers
+pub mod Runs

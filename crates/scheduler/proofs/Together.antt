@@ -1,0 +1,232 @@
+-- The parts of a tick, put together: what the functions compute of the arrays is what the tick's definition says of the lists.
+use Prim.Native.Nat.{ℕ, zero, suc, _+_, _-_, _≤_, _<_}
+use native.Mathlib.Omega.{arith}
+use mathlib.Core.Path.{_≡_, refl, sym, ap, ap₂, subst, _∙_}
+use mathlib.Core.Bool.{Bool, true, false, cond, not, _&&_}
+use mathlib.Core.List.{List, [], _∷_, _++_}
+use lib.ListN.{length, take, drop, getD, set, length-set, List·getD-append}
+use lib.Seq.{set-append-left, length-take-le, take-length}
+use lib.Dec.{leb, ltb}
+use borrow.Author.Tests.{leb-true, ltb-true}
+use Rattle.lists.specs.Lists.{overlay, take-overlay, overlay-take, zip-length}
+use Rattle.lists.specs.Tests.{never, and-split}
+use Rattle.server.specs.declared.ServerState.{ServerState}
+use Rattle.server.specs.declared.Seen.{Seen}
+use Rattle.server.specs.Kind.{Kind, kindOf}
+use Rattle.server.specs.Server.{replenish, eligible, servesIdle}
+use Rattle.server.specs.Consumed.{consumed}
+use Rattle.server.specs.Within.{Within, replenish-within, consumed-is-consume}
+use Rattle.queue.specs.declared.Request.{Request}
+use Rattle.queue.specs.declared.Queue.{Queue}
+use Rattle.queue.specs.declared.Finish.{Finish}
+use Rattle.queue.specs.Queue.{waits, headId, finished, waitingOf, queueWith}
+use Rattle.queue.specs.Steps.{servedQueue}
+use Rattle.queue.specs.Laws.{served-with}
+use Rattle.table.specs.declared.Table.{Table}
+use Rattle.table.specs.declared.Progress.{Progress}
+use Rattle.table.specs.declared.State.{State}
+use Rattle.table.specs.Model.{taskSetOf, modelOf}
+use Rattle.table.specs.State.{fit}
+use Rattle.table.specs.Facts.{TableFacts, table-facts, StateFacts, fit-facts}
+use Rattle.rules.specs.declared.Turn.{Turn}
+use Rattle.rules.specs.declared.Occupant.{Occupant}
+use Rattle.rules.specs.declared.Entry.{Entry}
+use Rattle.rules.specs.declared.TickAnswer.{TickAnswer}
+use Rattle.rules.specs.declared.Ticked.{Ticked}
+use Rattle.rules.specs.Tick.{opened, anyOpen, firstOpen, idleTurn, choose, workedTasks, workedQueue, occupantOf, finishOf, seenBy, turnAt, leftsAt, aboveAt, busyAt, serverAt, seenAt}
+use Rattle.rules.specs.Calls.{clockAllows, ticked, stateAfter, ranBy, entryBy, entryOf}
+use Rattle.rules.specs.Laws.{Sized}
+use Rattle.scheduler.specs.declared.Opened.{Opened}
+use Rattle.scheduler.specs.declared.Head.{Head}
+use Rattle.scheduler.specs.declared.Started.{Started}
+use Rattle.scheduler.specs.declared.Decision.{Decision}
+use Rattle.scheduler.specs.declared.Recorded.{Recorded}
+use Rattle.scheduler.specs.Parts.{joined, mayRun, openedBy, leftsBy, startedBy, headOf, toRequest, seenOf, decidedBy, entryFor, occupantFor, recordedBy}
+use Rattle.scheduler.proofs.Laws.{first-below}
+
+-- some task is open: the first open one stands before the end
+first-any : (ls : List ℕ) → ltb (firstOpen ls) (length ls) ≡ anyOpen ls
+first-any ls = first-below (length ls) ls (omega arith) ∙ ap anyOpen (take-length ls)
+
+-- ---- steps 1 to 3
+module _ (t : Table) (p : Progress) (few : t .n ≤ 16) (tasks : length (t .tasks) ≡ 16) (left : length (p .left) ≡ 16) where
+  pub lefts-length : length (leftsBy t p) ≡ t .n
+  lefts-length =
+      let a : length (take (t .n) (t .tasks)) ≡ t .n = length-take-le _ _ (rw tasks few) in
+      let b : length (take (t .n) (p .left)) ≡ t .n = length-take-le _ _ (rw left few) in
+      zip-length (opened (p .clock)) (take (t .n) (t .tasks)) (take (t .n) (p .left)) (a ∙ sym b) ∙ b
+
+  pub start-is : (o : Opened) (first : ℕ) (x : ServerState) → o ≡ openedBy (p .clock) (t .tasks) (p .left) (t .n) →
+      first ≡ firstOpen (take (t .n) (o .left)) → x ≡ replenish (kindOf (t .server .kind)) (t .server) (p .server) (p .clock) (ltb first (t .n)) →
+      record { left = o .left; drops = o .drops; first = first; server = x } ≡ startedBy t p
+  start-is o first x eo ef ex =
+      let r : take (t .n) (overlay (leftsBy t p) (p .left)) ≡ leftsBy t p = take-overlay (t .n) (leftsBy t p) (p .left) lefts-length in
+      let f : first ≡ firstOpen (leftsBy t p) = ef ∙ ap (λ (o : Opened). firstOpen (take (t .n) (o .left))) eo ∙ ap firstOpen r in
+      let b : ltb first (t .n) ≡ anyOpen (leftsBy t p) = ap (λ (i : ℕ). ltb i (t .n)) f ∙ ap (λ (n : ℕ). ltb (firstOpen (leftsBy t p)) n) (sym lefts-length) ∙ first-any (leftsBy t p) in
+      rw (ex, b, f, eo)
+
+-- ---- step 5 of the tasks: the array is worked on as the list is
+worked-overlay : (turn : Turn) (ls old : List ℕ) → ((i : ℕ) → turn ≡ Turn.Task i → i < length ls) → workedTasks turn (overlay ls old) ≡ overlay (workedTasks turn ls) old
+unfolding overlay
+worked-overlay Turn.Nobody ls old h = refl
+worked-overlay (Turn.Task i) ls old h =
+    rw (List·getD-append ls (drop (length ls) old) 0 i (h i refl), set-append-left ls (drop (length ls) old) i (getD ls i 0 - 1) (h i refl), length-set ls i (getD ls i 0 - 1))
+worked-overlay Turn.Budget ls old h = refl
+worked-overlay Turn.Spare ls old h = refl
+
+-- a task's turn is the first open task's
+choose-task : (k : Kind) (above busy waiting : Bool) (x : ServerState) (first n : ℕ) → (above ≡ true → first < n) → (busy ≡ true → first < n) →
+    (i : ℕ) → choose k above busy waiting x first ≡ Turn.Task i → i < n
+choose-task k true busy waiting x first n a b i e = let s : first ≡ i = cc in omega (arith, a refl)
+choose-task k false busy waiting x first n a b i e = go (eligible waiting x) busy b (servesIdle k && waiting) e
+  where
+    go : (el bu : Bool) → (bu ≡ true → first < n) → (sp : Bool) → cond el Turn.Budget (cond bu (Turn.Task first) (cond sp Turn.Spare Turn.Nobody)) ≡ Turn.Task i → i < n
+    go true bu b sp e = let z : _≡_ {A = ℕ} 0 1 = cc in absurd (omega arith)
+    go false true b sp e = let s : first ≡ i = cc in omega (arith, b refl)
+    go false false b true e = let z : _≡_ {A = ℕ} 0 1 = cc in absurd (omega arith)
+    go false false b false e = let z : _≡_ {A = ℕ} 0 1 = cc in absurd (omega arith)
+
+-- ---- what the server is shown
+seen-is : (t : ℕ) (q : List Request) (turn : Turn) (above busy : Bool) → seenOf t (headOf q) turn above busy ≡ seenBy t q turn above busy
+seen-is t q Turn.Nobody above busy = refl
+seen-is t q (Turn.Task i) above busy = refl
+seen-is t q Turn.Budget above busy = refl
+seen-is t q Turn.Spare above busy = refl
+
+-- ---- a state that may run one tick
+pub may-fit : (s : State) → mayRun 1 s ≡ true → (fit s ≡ true) × (clockAllows s 1 ≡ true)
+unfolding mayRun
+may-fit s e = and-split (fit s) (clockAllows s 1) e
+
+pub may-facts : (s : State) → mayRun 1 s ≡ true → StateFacts s
+may-facts s e = fit-facts s (may-fit s e .0)
+
+pub may-table : (s : State) → mayRun 1 s ≡ true → TableFacts (s .table)
+may-table s e = table-facts (s .table) (may-facts s e .passes)
+
+pub may-clock : (s : State) → mayRun 1 s ≡ true → s .progress .clock + 1 ≤ 4_000_000_000
+may-clock s e = leb-true _ _ (may-fit s e .1)
+
+-- ---- the whole tick
+module _ (t : Table) (p : Progress) (q : Queue) (may : mayRun 1 (joined t p q) ≡ true) (tasks : length (t .tasks) ≡ 16) (left : length (p .left) ≡ 16) where
+  abbrev s : State
+  s = joined t p q
+
+  limits : TableFacts t
+  limits = may-table s may
+
+  facts : StateFacts s
+  facts = may-facts s may
+
+  long : length (leftsBy t p) ≡ t .n
+  long = lefts-length t p (limits .count) tasks left
+
+  above-is : ltb (firstOpen (leftsBy t p)) (t .server .place) ≡ aboveAt (taskSetOf t) (modelOf s)
+  above-is = first-below (t .server .place) (leftsBy t p) (omega (arith, long, limits .server .place))
+
+  busy-is : ltb (firstOpen (leftsBy t p)) (t .n) ≡ busyAt (taskSetOf t) (modelOf s)
+  busy-is = ap (λ (n : ℕ). ltb (firstOpen (leftsBy t p)) n) (sym long) ∙ first-any (leftsBy t p)
+
+  within : (i : ℕ) → turnAt (taskSetOf t) (modelOf s) ≡ Turn.Task i → i < length (leftsBy t p)
+  within i e =
+      choose-task (kindOf (t .server .kind)) (aboveAt (taskSetOf t) (modelOf s)) (busyAt (taskSetOf t) (modelOf s)) (waits (waitingOf q)) (serverAt (taskSetOf t) (modelOf s)) (firstOpen (leftsBy t p)) (length (leftsBy t p))
+      (λ a. let b : firstOpen (leftsBy t p) < t .server .place = ltb-true _ _ (above-is ∙ a) in omega (arith, long, limits .server .place))
+      (λ a. let b : firstOpen (leftsBy t p) < t .n = ltb-true _ _ (busy-is ∙ a) in omega (arith, long))
+      i e
+
+  kept : Within (t .server) (p .clock) (serverAt (taskSetOf t) (modelOf s))
+  kept = replenish-within (kindOf (t .server .kind)) (t .server) (p .server) (p .clock) (busyAt (taskSetOf t) (modelOf s)) (facts .server)
+
+  consumed-is : consumed (t .server) (serverAt (taskSetOf t) (modelOf s)) (seenAt (taskSetOf t) (modelOf s)) ≡ stateAfter s .progress .server
+  consumed-is =
+      consumed-is-consume (t .server) (serverAt (taskSetOf t) (modelOf s)) (seenAt (taskSetOf t) (modelOf s)) (limits .server .period) (facts .clock) (kept .times)
+
+  pub decide-is : (st : Started) (h : Head) (turn : Turn) (l : List ℕ) (e : Seen) (x : ServerState) →
+      st ≡ startedBy t p → h ≡ headOf (waitingOf q) →
+      turn ≡ choose (kindOf (t .server .kind)) (ltb (st .first) (t .server .place)) (ltb (st .first) (t .n)) (h .waits) (st .server) (st .first) →
+      l ≡ workedTasks turn (st .left) →
+      e ≡ seenOf (p .clock) h turn (ltb (st .first) (t .server .place)) (ltb (st .first) (t .n)) →
+      x ≡ consumed (t .server) (st .server) e →
+      record { progress = record { left = l; server = x; clock = p .clock + 1 }; turn = turn; drops = st .drops } ≡ decidedBy s
+  decide-is st h turn l e x es eh et el ee ex =
+      let t1 : turn ≡ turnAt (taskSetOf t) (modelOf s) = et ∙ rw (es, eh, above-is, busy-is) refl in
+      let l1 : l ≡ overlay (workedTasks (turnAt (taskSetOf t) (modelOf s)) (leftsBy t p)) (p .left) = el ∙ rw (es, t1) (worked-overlay (turnAt (taskSetOf t) (modelOf s)) (leftsBy t p) (p .left) within) in
+      let e1 : e ≡ seenAt (taskSetOf t) (modelOf s) = ee ∙ rw (es, eh, t1, above-is, busy-is) (seen-is (p .clock) (waitingOf q) (turnAt (taskSetOf t) (modelOf s)) (aboveAt (taskSetOf t) (modelOf s)) (busyAt (taskSetOf t) (modelOf s))) in
+      let x1 : x ≡ stateAfter s .progress .server = ex ∙ rw (es, e1) (consumed-is) in
+      rw (x1, l1, t1, es)
+
+-- ---- what a tick reports
+entry-is : (turn : Turn) (q : List Request) (d : ℕ) → entryFor turn (headId q) d ≡ entryBy (occupantOf turn q) d
+entry-is Turn.Nobody q d = refl
+entry-is (Turn.Task i) q d = refl
+entry-is Turn.Budget q d = refl
+entry-is Turn.Spare q d = refl
+
+occupant-is : (turn : Turn) (q : List Request) → occupantFor turn (headId q) ≡ occupantOf turn q
+occupant-is Turn.Nobody q = refl
+occupant-is (Turn.Task i) q = refl
+occupant-is Turn.Budget q = refl
+occupant-is Turn.Spare q = refl
+
+pub record-is : (s : State) (d : Decision) (h : Head) (e : Entry) (b : Bool) → d ≡ decidedBy s → h ≡ headOf (waitingOf (s .queue)) →
+    e ≡ entryFor (d .turn) (h .id) (d .drops) → b ≡ toRequest (d .turn) → record { progress = d .progress; entry = e; serves = b } ≡ recordedBy s
+record-is s d h e b ed eh ee eb =
+    let e1 : e ≡ entryOf (ticked s) = ee ∙ rw (ed, eh) (entry-is (turnAt (taskSetOf (s .table)) (modelOf s)) (waitingOf (s .queue)) (ticked s .drops)) in
+    let b1 : b ≡ toRequest (turnAt (taskSetOf (s .table)) (modelOf s)) = eb ∙ rw ed refl in
+    rw (b1, e1, ed)
+
+-- ---- the queue after a tick: it stays, or its head is served
+queue-stays : (q : Queue) → q .n ≤ length (q .requests) → queueWith q (waitingOf q) ≡ q
+queue-stays q h = rw (overlay-take (q .n) (q .requests), length-take-le (q .n) (q .requests) h)
+
+module _ (s : State) (room : s .queue .n ≤ 64) (long : length (s .queue .requests) ≡ 64) where
+  after-stay : (turn : Turn) → toRequest turn ≡ false → s .queue ≡ queueWith (s .queue) (workedQueue turn (waitingOf (s .queue)))
+  after-stay Turn.Nobody e = sym (queue-stays (s .queue) (omega (arith, long)))
+  after-stay (Turn.Task i) e = sym (queue-stays (s .queue) (omega (arith, long)))
+  after-stay Turn.Budget e = never e refl
+  after-stay Turn.Spare e = never e refl
+
+  after-serve : (turn : Turn) → toRequest turn ≡ true → servedQueue (s .queue) ≡ queueWith (s .queue) (workedQueue turn (waitingOf (s .queue)))
+  after-serve Turn.Nobody e = never refl e
+  after-serve (Turn.Task i) e = never refl e
+  after-serve Turn.Budget e = served-with (s .queue) room
+  after-serve Turn.Spare e = served-with (s .queue) room
+
+  finish-some : (t : ℕ) (turn : Turn) (q : List Request) → toRequest turn ≡ true → finished t q ≡ finishOf t turn q
+  finish-some t Turn.Nobody q e = never refl e
+  finish-some t (Turn.Task i) q e = never refl e
+  finish-some t Turn.Budget q e = refl
+  finish-some t Turn.Spare q e = refl
+
+  finish-none : (t : ℕ) (turn : Turn) (q : List Request) → toRequest turn ≡ false → Finish.Nothing ≡ finishOf t turn q
+  finish-none t Turn.Nobody q e = refl
+  finish-none t (Turn.Task i) q e = refl
+  finish-none t Turn.Budget q e = never e refl
+  finish-none t Turn.Spare q e = never e refl
+
+  abbrev now : Turn
+  now = turnAt (taskSetOf (s .table)) (modelOf s)
+
+  pub queue-after : (b : Bool) → toRequest (turnAt (taskSetOf (s .table)) (modelOf s)) ≡ b → cond b (servedQueue (s .queue)) (s .queue) ≡ stateAfter s .queue
+  queue-after true e = after-serve now e
+  queue-after false e = after-stay now e
+
+  -- the answer of a tick, served or not
+  module _ (d : Decision) (h : Head) (o : Occupant) (ed : d ≡ decidedBy s) (eh : h ≡ headOf (waitingOf (s .queue))) (eo : o ≡ occupantFor (d .turn) (h .id)) where
+    occupant : o ≡ ticked s .occupant
+    occupant = eo ∙ rw (ed, eh) (occupant-is now (waitingOf (s .queue)))
+
+    turns : (b : Bool) → b ≡ toRequest (d .turn) → (v : Bool) → b ≡ v → toRequest now ≡ v
+    turns b e v f = sym (rw ed at e) ∙ f
+
+    pub ran-served : (b : Bool) → b ≡ toRequest (d .turn) → b ≡ true → (f : Finish) (q : Queue) → f ≡ finished (s .progress .clock) (waitingOf (s .queue)) → q ≡ servedQueue (s .queue) →
+        record { answer = TickAnswer.Ran o (d .drops) f; state = record { table = s .table; progress = d .progress; queue = q } } ≡ ranBy s (ticked s)
+    ran-served b e y f q ef eq =
+        let v : toRequest now ≡ true = turns b e true y in
+        rw (occupant, ed, ef, finish-some (s .progress .clock) now (waitingOf (s .queue)) v, eq, after-serve now v)
+
+    pub ran-stays : (b : Bool) → b ≡ toRequest (d .turn) → b ≡ false →
+        record { answer = TickAnswer.Ran o (d .drops) Finish.Nothing; state = record { table = s .table; progress = d .progress; queue = s .queue } } ≡ ranBy s (ticked s)
+    ran-stays b e y =
+        let v : toRequest now ≡ false = turns b e false y in
+        rw (occupant, ed, ← (finish-none (s .progress .clock) now (waitingOf (s .queue)) v), ← (after-stay now v))

@@ -1,0 +1,55 @@
+-- `decide` meets its contract: the parts of a tick put together, by `decide-is`.
+use borrow.Author.Needs.{needs}
+use native.Mathlib.Omega.{arith}
+use mathlib.Core.Path.{_≡_}
+use lib.ListN.{length, length-map}
+use Rattle.scheduler.proofs.Together.{may-table, may-facts, may-clock, decide-is}
+use Rattle.scheduler.proofs.decide.Statement.{statement}
+use Rattle.scheduler.proofs.decide.Tie as tie
+
+start-requires : tie.Need-start-requires
+start-requires c κs = may-table _ (c .before .pre)
+
+head-of-requires : tie.Need-head-of-requires
+head-of-requires c κs = may-facts _ (c .before .before .pre) .waiting
+
+choose-turn-requires : tie.Need-choose-turn-requires
+choose-turn-requires c κs = search needs
+
+work-tasks-requires : tie.Need-work-tasks-requires
+work-tasks-requires c κs = search needs
+
+show-requires : tie.Need-show-requires
+show-requires c κs = search needs
+
+add-clock : tie.Need-add-clock
+add-clock c =
+    let h = may-clock _ (c .before .before .before .before .before .before .before .before .before .before .before .before .pre) in
+    record { fits = omega arith }
+
+consume-requires : tie.Need-consume-requires
+consume-requires c κs = search needs
+
+returns : tie.Need-returns
+returns c =
+    let chose = c .before .before .before .before in
+    let head = chose .before .before .before .before .before .before in
+    let a = head .before .before .before in
+    let l : length (a .args .table .tasks) ≡ 16 = simp length-map at (a .good .0 .1 .1 .0 .1 .0 .1) in
+    let m : length (a .args .progress .left) ≡ 16 = simp length-map at (a .good .1 .0 .1 .1 .0 .1 .0 .1) in
+    decide-is (a .args .table) (a .args .progress) (a .args .queue) (a .pre) l m
+    (head .before .start .result) (head .head-of .result) (chose .choose-turn .result) (c .before .before .work-tasks .result) (c .before .show .result) (c .consume .result)
+    (head .before .start .ensures) (head .head-of .ensures) (chose .choose-turn .ensures) (c .before .before .work-tasks .ensures) (c .before .show .ensures) (c .consume .ensures)
+
+pub decide-spec : {M : Type 1} → statement M
+decide-spec =
+    tie.close
+    (tie.spec
+    start-requires
+    head-of-requires
+    choose-turn-requires
+    work-tasks-requires
+    show-requires
+    add-clock
+    consume-requires
+    returns)

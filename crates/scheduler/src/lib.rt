@@ -1,0 +1,578 @@
+// The calls that move a state: a request, a tick, a run of ticks.
+ghost use Prim.Native.Nat.{ℕ, _+_, _<_, _≤_};
+ghost use lib.ListN.{length, take, getD};
+ghost use mathlib.Core.Bool.{true};
+ghost use mathlib.Core.Path.{_≡_};
+ghost use Rattle.lists.specs.Time.{due};
+ghost use Rattle.server.specs.Kind.{kindOf};
+ghost use Rattle.queue.specs.Queue.{waitingOf, finished};
+ghost use Rattle.table.specs.Facts.{TableFacts, TaskLimits, noTask};
+ghost use Rattle.rules.specs.Tick.{choose, firstOpen, idleTurn, workedTasks};
+ghost use Rattle.rules.specs.Calls.{requestCall, ticked, ranBy, tickCall};
+ghost use Rattle.rules.specs.Laws.{Sized};
+ghost use Rattle.scheduler.specs.Parts.{joined, mayRun, steppedBy, openedBy, startedBy, headOf, toRequest, seenOf, decidedBy, entryFor, occupantFor, recordedBy, allowance, movedTo};
+use queue::Finish;
+use queue::Queue;
+use rules::Entry;
+use rules::Moved;
+use rules::Occupant;
+use rules::TickAnswer;
+use rules::Ticked;
+use rules::Turn;
+use server::Seen;
+use server::ServerState;
+use table::Checked;
+use table::Progress;
+use table::Refusal;
+use table::State;
+use table::Table;
+use table::Task;
+
+// ---- steps 1 to 3
+
+// What steps 1 and 2 leave of a task, and its drops: 1 or 0.
+struct Stepped {
+    left: u32,
+    drops: u32,
+}
+
+// The same of every task in use.
+struct Opened {
+    left: [u32; Table::MAX_TASKS as usize],
+    drops: u32,
+}
+
+// Steps 1 to 3: what is left of each task, the drops, the first open task, and the server after replenishment.
+struct Started {
+    left: [u32; Table::MAX_TASKS as usize],
+    drops: u32,
+    first: u32,
+    server: ServerState,
+}
+
+// t is start, or a whole number of periods after it.
+fn is_due(t: u32, start: u32, period: u32) -> bool
+    requires { ⌜ 0 < period ⌝ }
+    ensures { λ r. ⌜ r ≡ due t start period ⌝ }
+{
+    if t < start {
+        return false;
+    }
+    (t - start) % period == 0
+}
+
+// Steps 1 and 2 of a task.
+fn step_task(t: u32, task: Task, left: u32) -> Stepped
+    requires { ⌜ TaskLimits task ⌝ }
+    ensures { λ r. ⌜ r ≡ steppedBy t task left ⌝ }
+{
+    let released = is_due(t, task.phase, task.period);
+    if left == 0 {
+        if released {
+            return Stepped {
+                left: task.exec,
+                drops: 0,
+            };
+        }
+        return Stepped { left: 0, drops: 0 };
+    }
+    let late = is_due(t, task.phase + task.deadline, task.period);
+    if late {
+        if released {
+            return Stepped {
+                left: task.exec,
+                drops: 1,
+            };
+        }
+        return Stepped { left: 0, drops: 1 };
+    }
+    if released {
+        return Stepped {
+            left: task.exec,
+            drops: 0,
+        };
+    }
+    Stepped { left, drops: 0 }
+}
+
+// Steps 1 and 2 of the n tasks in use.
+fn open_tasks(
+    t: u32,
+    tasks: [Task; Table::MAX_TASKS as usize],
+    left: [u32; Table::MAX_TASKS as usize],
+    n: u32,
+) -> Opened
+    requires { ⌜ n ≤ 16 ⌝ }
+    requires { ⌜ ((i : ℕ) → i < n → TaskLimits (getD tasks i noTask)) ⌝ }
+    ensures { λ r. ⌜ r ≡ openedBy t tasks left n ⌝ }
+{
+    let mut now_left = left;
+    let mut drops: u32 = 0;
+    let mut i: usize = 0;
+    let end = n as usize;
+    while i < end {
+        let task = tasks[i];
+        let was = left[i];
+        let s = step_task(t, task, was);
+        now_left[i] = s.left;
+        drops += s.drops;
+        i += 1;
+    }
+    Opened {
+        left: now_left,
+        drops,
+    }
+}
+
+// The index of the first open task of n, or n.
+fn first_open(left: [u32; Table::MAX_TASKS as usize], n: u32) -> u32
+    requires { ⌜ n ≤ 16 ⌝ }
+    ensures { λ r. ⌜ r ≡ firstOpen (take n left) ⌝ }
+{
+    let mut i: u32 = 0;
+    while i < n {
+        let at = i as usize;
+        if 0 < left[at] {
+            return i;
+        }
+        i += 1;
+    }
+    n
+}
+
+// Steps 1 to 3 of a tick.
+fn start(table: Table, progress: Progress) -> Started
+    requires { ⌜ TableFacts table ⌝ }
+    ensures { λ r. ⌜ r ≡ startedBy table progress ⌝ }
+{
+    let tasks = table.tasks;
+    let left = progress.left;
+    let n = table.n;
+    let t = progress.clock;
+    let opened = open_tasks(t, tasks, left, n);
+    let now_left = opened.left;
+    let first = first_open(now_left, n);
+    let server = progress.server;
+    let full = server.replenish(table.server, t, first < n);
+    Started {
+        left: now_left,
+        drops: opened.drops,
+        first,
+        server: full,
+    }
+}
+
+// ---- step 4
+
+// A tick that would be idle: kind 0 gives it to the head request.
+fn idle_turn(kind: u32, waiting: bool) -> Turn
+    ensures { λ r. ⌜ r ≡ idleTurn (kindOf kind) waiting ⌝ }
+{
+    match kind {
+        1 => Turn::Nobody,
+        2 => Turn::Nobody,
+        3 => Turn::Nobody,
+        _ => {
+            if waiting {
+                return Turn::Spare;
+            }
+            Turn::Nobody
+        }
+    }
+}
+
+// Step 4.
+fn choose_turn(
+    kind: u32,
+    above: bool,
+    busy: bool,
+    waiting: bool,
+    server: ServerState,
+    first: u32,
+) -> Turn
+    ensures { λ r. ⌜ r ≡ choose (kindOf kind) above busy waiting server first ⌝ }
+{
+    if above {
+        return Turn::Task(first);
+    }
+    if waiting & (0 < server.budget) {
+        return Turn::Budget;
+    }
+    if busy {
+        return Turn::Task(first);
+    }
+    idle_turn(kind, waiting)
+}
+
+// ---- step 5
+
+// All that a tick reads of a queue: whether a request waits, whether none waits after a served tick, the head's id.
+struct Head {
+    waits: bool,
+    last: bool,
+    id: u32,
+}
+
+fn head_of(queue: Queue) -> Head
+    requires { ⌜ queue .n ≤ 64 ⌝ }
+    ensures { λ r. ⌜ r ≡ headOf (waitingOf queue) ⌝ }
+{
+    let n = queue.n;
+    if n == 0 {
+        return Head {
+            waits: false,
+            last: true,
+            id: 0,
+        };
+    }
+    let head = queue.requests[0];
+    Head {
+        waits: true,
+        last: (head.work <= 1) & (n <= 1),
+        id: head.id,
+    }
+}
+
+// The tick goes to a request.
+fn to_request(turn: Turn) -> bool
+    ensures { λ r. ⌜ r ≡ toRequest turn ⌝ }
+{
+    match turn {
+        Turn::Nobody => false,
+        Turn::Task(_) => false,
+        Turn::Budget => true,
+        Turn::Spare => true,
+    }
+}
+
+// What is left of the tasks after a task's tick of work.
+fn work_tasks(
+    left: [u32; Table::MAX_TASKS as usize],
+    turn: Turn,
+) -> [u32; Table::MAX_TASKS as usize]
+    ensures { λ r. ⌜ r ≡ workedTasks turn left ⌝ }
+{
+    match turn {
+        Turn::Nobody => left,
+        Turn::Task(i) => {
+            if Table::MAX_TASKS <= i {
+                return left;
+            }
+            let at = i as usize;
+            let was = left[at];
+            if was == 0 {
+                return left;
+            }
+            let mut next = left;
+            next[at] = was - 1;
+            next
+        }
+        Turn::Budget => left,
+        Turn::Spare => left,
+    }
+}
+
+// What step 5 shows the server.
+fn show(t: u32, head: Head, turn: Turn, above: bool, busy: bool) -> Seen
+    ensures { λ r. ⌜ r ≡ seenOf t head turn above busy ⌝ }
+{
+    match turn {
+        Turn::Nobody => Seen {
+            t,
+            above,
+            busy,
+            serves: false,
+            waited: head.waits,
+            emptied: !head.waits,
+        },
+        Turn::Task(_) => Seen {
+            t,
+            above,
+            busy,
+            serves: false,
+            waited: head.waits,
+            emptied: !head.waits,
+        },
+        Turn::Budget => Seen {
+            t,
+            above,
+            busy,
+            serves: true,
+            waited: head.waits,
+            emptied: head.last,
+        },
+        Turn::Spare => Seen {
+            t,
+            above,
+            busy,
+            serves: false,
+            waited: head.waits,
+            emptied: head.last,
+        },
+    }
+}
+
+// ---- a tick
+
+// What a tick decides: all but the queue.
+struct Decision {
+    progress: Progress,
+    turn: Turn,
+    drops: u32,
+}
+
+fn decide(table: Table, progress: Progress, queue: Queue) -> Decision
+    requires { ⌜ mayRun 1 (joined table progress queue) ≡ true ⌝ }
+    ensures { λ r. ⌜ r ≡ decidedBy (joined table progress queue) ⌝ }
+{
+    let server = table.server;
+    let t = progress.clock;
+    let s = start(table, progress);
+    let head = head_of(queue);
+    let full = s.server;
+    let above = s.first < server.place;
+    let busy = s.first < table.n;
+    let turn = choose_turn(server.kind, above, busy, head.waits, full, s.first);
+    let opened = s.left;
+    let left = work_tasks(opened, turn);
+    let seen = show(t, head, turn, above, busy);
+    let clock = t + 1;
+    Decision {
+        progress: Progress {
+            left,
+            server: full.consume(server, seen),
+            clock,
+        },
+        turn,
+        drops: s.drops,
+    }
+}
+
+// The record of the tick that a turn is.
+fn entry_of(turn: Turn, id: u32, drops: u32) -> Entry
+    ensures { λ r. ⌜ r ≡ entryFor turn id drops ⌝ }
+{
+    match turn {
+        Turn::Nobody => Entry {
+            kind: 0,
+            id: 0,
+            drops,
+        },
+        Turn::Task(i) => Entry {
+            kind: 1,
+            id: i,
+            drops,
+        },
+        Turn::Budget => Entry { kind: 2, id, drops },
+        Turn::Spare => Entry { kind: 2, id, drops },
+    }
+}
+
+// The same with the tick's record, for a run.
+struct Recorded {
+    progress: Progress,
+    entry: Entry,
+    serves: bool,
+}
+
+fn record_tick(table: Table, progress: Progress, queue: Queue) -> Recorded
+    requires { ⌜ mayRun 1 (joined table progress queue) ≡ true ⌝ }
+    ensures { λ r. ⌜ r ≡ recordedBy (joined table progress queue) ⌝ }
+{
+    let d = decide(table, progress, queue);
+    let head = head_of(queue);
+    let turn = d.turn;
+    let next = d.progress;
+    Recorded {
+        progress: next,
+        entry: entry_of(turn, head.id, d.drops),
+        serves: to_request(turn),
+    }
+}
+
+fn occupant_of(turn: Turn, id: u32) -> Occupant
+    ensures { λ r. ⌜ r ≡ occupantFor turn id ⌝ }
+{
+    match turn {
+        Turn::Nobody => Occupant::Idle,
+        Turn::Task(i) => Occupant::Task(i),
+        Turn::Budget => Occupant::Request(id),
+        Turn::Spare => Occupant::Request(id),
+    }
+}
+
+// The request that a tick of service finishes: the head, at its last tick of work.
+fn finish_of(t: u32, queue: Queue) -> Finish
+    requires { ⌜ (t ≤ 4000000000) × (queue .n ≤ 64) ⌝ }
+    ensures { λ r. ⌜ r ≡ finished t (waitingOf queue) ⌝ }
+{
+    if queue.n == 0 {
+        return Finish::Nothing;
+    }
+    let head = queue.requests[0];
+    let end = t + 1;
+    if head.work <= 1 {
+        if end < head.arrival {
+            return Finish::Finished {
+                id: head.id,
+                response: 0,
+            };
+        }
+        return Finish::Finished {
+            id: head.id,
+            response: end - head.arrival,
+        };
+    }
+    Finish::Nothing
+}
+
+// A tick of a state that may run one.
+fn run_tick(state: State) -> Ticked
+    requires { ⌜ mayRun 1 state ≡ true ⌝ }
+    ensures { λ r. ⌜ r ≡ ranBy state (ticked state) ⌝ }
+{
+    let table = state.table;
+    let progress = state.progress;
+    let queue = state.queue;
+    let d = decide(table, progress, queue);
+    let turn = d.turn;
+    let next = d.progress;
+    let head = head_of(queue);
+    let occupant = occupant_of(turn, head.id);
+    if to_request(turn) {
+        let finish = finish_of(progress.clock, queue);
+        return Ticked {
+            answer: TickAnswer::Ran {
+                occupant,
+                drops: d.drops,
+                finish,
+            },
+            state: State {
+                table,
+                progress: next,
+                queue: queue.serve(),
+            },
+        };
+    }
+    Ticked {
+        answer: TickAnswer::Ran {
+            occupant,
+            drops: d.drops,
+            finish: Finish::Nothing,
+        },
+        state: State {
+            table,
+            progress: next,
+            queue,
+        },
+    }
+}
+
+// ---- the calls
+
+// The tick call: one tick at the state's clock, or refusal 11 or 6.
+pub fn tick(state: State) -> Ticked
+    ensures { λ r. ⌜ r ≡ tickCall state ⌝ }
+{
+    if !state.fit() {
+        return Ticked {
+            answer: TickAnswer::Refused(Refusal::UnfitState),
+            state,
+        };
+    }
+    let progress = state.progress;
+    if Table::LAST_CLOCK <= progress.clock {
+        return Ticked {
+            answer: TickAnswer::Refused(Refusal::ClockSpent),
+            state,
+        };
+    }
+    run_tick(state)
+}
+
+// The request call: a request presented at the state's clock, or refusal 11, 4 or 5.
+pub fn request(state: State, id: u32, work: u32) -> Moved
+    ensures { λ r. ⌜ r ≡ requestCall state id work ⌝ }
+{
+    if !state.fit() {
+        return Moved {
+            answer: Checked::Refused(Refusal::UnfitState),
+            state,
+        };
+    }
+    if (work < 1) | (Table::MAX_WORK < work) {
+        return Moved {
+            answer: Checked::Refused(Refusal::BadWork),
+            state,
+        };
+    }
+    let queue = state.queue;
+    if Table::MAX_WAITING <= queue.n {
+        return Moved {
+            answer: Checked::Refused(Refusal::QueueFull),
+            state,
+        };
+    }
+    let table = state.table;
+    let progress = state.progress;
+    Moved {
+        answer: Checked::Passed,
+        state: State {
+            table,
+            progress,
+            queue: queue.push(id, work, progress.clock),
+        },
+    }
+}
+
+// ---- a run
+
+// Which run is allowed, and how many ticks it then runs: none if it is refused.
+struct Allowed {
+    answer: Checked,
+    ticks: usize,
+}
+
+fn check_run(state: State, k: u32, lent: usize) -> Allowed
+    ensures { λ r. ⌜ (r ≡ allowance state k lent) × Sized state ⌝ }
+{
+    if !state.fit() {
+        return Allowed {
+            answer: Checked::Refused(Refusal::UnfitState),
+            ticks: 0,
+        };
+    }
+    let progress = state.progress;
+    let end = (progress.clock as u64) + (k as u64);
+    if (Table::LAST_CLOCK as u64) < end {
+        return Allowed {
+            answer: Checked::Refused(Refusal::ClockSpent),
+            ticks: 0,
+        };
+    }
+    let ticks = k as usize;
+    if lent < ticks {
+        return Allowed {
+            answer: Checked::Refused(Refusal::ShortRecord),
+            ticks: 0,
+        };
+    }
+    Allowed {
+        answer: Checked::Passed,
+        ticks,
+    }
+}
+
+fn end_run(allowed: Allowed, table: Table, progress: Progress, queue: Queue) -> Moved
+    ensures { λ r. ⌜ r ≡ movedTo (allowed .answer) (joined table progress queue) ⌝ }
+{
+    let answer = allowed.answer;
+    Moved {
+        answer,
+        state: State {
+            table,
+            progress,
+            queue,
+        },
+    }
+}

@@ -1,6 +1,7 @@
 pub mod Least
 pub mod Demand
+pub mod Terms
 pub mod Admission
 pub mod Laws
-pub mod Cases
 pub mod Bounds
+pub mod Cases

@@ -109,6 +109,3 @@ fit-order s =
 -- what the answer of the check says
 pub unfit-table : (s : State) (a : Checked) (r : Refusal) → a ≡ tableCheck (s .table) → a ≡ Checked.Refused r → false ≡ fit s
 unfit-table s a r e f = sym (fit-order s ∙ rw (sym e ∙ f))
-
-pub check-passes : (t : Table) (a : Checked) → a ≡ tableCheck t → a ≡ Checked.Passed → passed (tableCheck t) ≡ true
-check-passes t a e f = rw (sym e ∙ f)

@@ -1,7 +1,7 @@
 -- The limits as facts that `omega` reads: of a task, of a server, of a table that passes, and of a fit state.
 use Prim.Native.Nat.{ℕ, zero, suc, _≤_, _<_}
 use native.Mathlib.Omega.{arith}
-use mathlib.Core.Path.{_≡_, refl}
+use mathlib.Core.Path.{_≡_, refl, sym, _∙_}
 use mathlib.Core.Bool.{Bool, true, false, cond, _&&_}
 use mathlib.Core.List.{List, [], _∷_}
 use borrow.Author.Tests.{leb-true, eqb-true, ltb-false, le-leb}
@@ -102,6 +102,10 @@ went-past : (b : Bool) (later : Checked) (r : Refusal) → passed (cond b (Check
     (b ≡ false) × (passed later ≡ true)
 went-past true later r e = never refl e
 went-past false later r e = (refl, e)
+
+-- the answer of the check, in hand
+pub check-passes : (t : Table) (a : Checked) → a ≡ tableCheck t → a ≡ Checked.Passed → passed (tableCheck t) ≡ true
+check-passes t a e f = rw (sym e ∙ f)
 
 pub table-facts : (t : Table) → passed (tableCheck t) ≡ true → TableFacts t
 table-facts t e =

@@ -8,9 +8,9 @@ ghost use Rattle.server.specs.Kind.{kindOf};
 ghost use Rattle.queue.specs.Queue.{waitingOf, finished};
 ghost use Rattle.table.specs.Facts.{TableFacts, TaskLimits, noTask};
 ghost use Rattle.rules.specs.Tick.{choose, firstOpen, idleTurn, workedTasks};
-ghost use Rattle.rules.specs.Calls.{requestCall, ticked, ranBy, tickCall};
+ghost use Rattle.rules.specs.Calls.{requestCall, ticked, ranBy, tickCall, runCall, runList};
 ghost use Rattle.rules.specs.Laws.{Sized};
-ghost use Rattle.scheduler.specs.Parts.{joined, mayRun, steppedBy, openedBy, startedBy, headOf, toRequest, seenOf, decidedBy, entryFor, occupantFor, recordedBy, allowance, movedTo};
+ghost use Rattle.scheduler.specs.Parts.{joined, mayRun, steppedBy, openedBy, startedBy, headOf, toRequest, seenOf, decidedBy, entryFor, occupantFor, recordedBy, allowance};
 use queue::Finish;
 use queue::Queue;
 use rules::Entry;
@@ -563,16 +563,33 @@ fn check_run(state: State, k: u32, lent: usize) -> Allowed
     }
 }
 
-fn end_run(allowed: Allowed, table: Table, progress: Progress, queue: Queue) -> Moved
-    ensures { λ r. ⌜ r ≡ movedTo (allowed .answer) (joined table progress queue) ⌝ }
+// The run call: k ticks, the record of each in the lent list, or refusal 11, 6 or 10. Fitness is looked at once, and the queue is
+// touched only where a tick goes to a request.
+pub fn run(state: State, k: u32, entries: &mut [Entry]) -> Moved
+    ensures { λ r. ⌜ (r ≡ runCall state k (length (now (entries .entry)))) × (now (entries .exit) ≡ runList state k (now (entries .entry))) ⌝ }
 {
-    let answer = allowed.answer;
+    let lent = entries.len();
+    let allowed = check_run(state, k, lent);
+    let table = state.table;
+    let mut progress = state.progress;
+    let mut queue = state.queue;
+    let mut i: usize = 0;
+    while i < allowed.ticks {
+        let d = record_tick(table, progress, queue);
+        entries[i] = d.entry;
+        progress = d.progress;
+        i += 1;
+        if d.serves {
+            queue = queue.serve();
+        }
+    }
+    let at = State {
+        table,
+        progress,
+        queue,
+    };
     Moved {
-        answer,
-        state: State {
-            table,
-            progress,
-            queue,
-        },
+        answer: allowed.answer,
+        state: at,
     }
 }

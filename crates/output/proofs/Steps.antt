@@ -1,0 +1,166 @@
+-- One step from a place, and a buffer that is filled step by step.
+use Prim.Native.Nat.{ℕ, zero, suc, _+_, _-_, _≤_, _<_}
+use mathlib.Core.Path.{_≡_, refl, sym, ap, _∙_, subst}
+use mathlib.Core.List.{List, [], _∷_, _++_, append-assoc}
+use mathlib.Core.Logic.{_⊎_, inl, inr, ⊎-elim}
+use native.Mathlib.Omega.{arith}
+use native.Mathlib.Numerals.{add-one}
+use lib.ListN.{length, take, drop}
+use lib.Seq.{drop-drop}
+use Rattle.table.specs.declared.State.{State}
+use Rattle.table.specs.declared.Table.{Table}
+use Rattle.text.specs.Buffer.{Wrote, front, behind, wrote-length}
+use Rattle.rules.specs.Calls.{tickCall}
+use Rattle.plan.specs.declared.Arrival.{Arrival}
+use Rattle.plan.specs.declared.Next.{Next}
+use Rattle.plan.specs.Plan.{arrivalsFrom, nextFrom, unrolled}
+use Rattle.plan.proofs.Arrivals.{Walked, walked}
+use Rattle.output.specs.declared.Place.{Place}
+use Rattle.output.specs.Output.{askedText, tickText, asked, ticksText}
+use Rattle.output.specs.Pieces.{NoneDue, asked-first, tick-first, textFrom, nextLeft, stepsLeft, Stepped, Filled}
+
+-- what was to be printed is a piece and what is to be printed after it
+module _ (bytes : List ℕ) (ticks : ℕ) (p : Place) (early : p .tick < ticks) where
+  one-more : ticks - p .tick ≡ suc (ticks - suc (p .tick))
+  one-more = omega arith
+
+  module _ (a : Arrival) (pos : ℕ) (found : p .next ≡ Next.Found a pos) (due : a .tick ≡ p .tick) where
+    abbrev presented : Place
+    presented = record { tick = p .tick; next = nextFrom bytes pos; state = asked (p .state) a .state }
+
+    abbrev line : List ℕ
+    line = askedText (p .tick) (a .id) (asked (p .state) a .answer)
+
+    found-rest : unrolled bytes (p .next) ≡ a ∷ arrivalsFrom bytes pos
+    unfolding unrolled
+    found-rest = ap (unrolled bytes) found
+
+    asked-text : textFrom bytes ticks p ≡ line ++ textFrom bytes ticks presented
+    unfolding textFrom
+    asked-text =
+        ap (ticksText (ticks - p .tick) (p .tick) (p .state)) found-rest
+        ∙ ap (λ (k : ℕ). ticksText k (p .tick) (p .state) (a ∷ arrivalsFrom bytes pos)) one-more
+        ∙ asked-first (ticks - suc (p .tick)) (p .tick) (p .state) a (arrivalsFrom bytes pos) due
+        ∙ ap (λ (k : ℕ). line ++ ticksText k (p .tick) (asked (p .state) a .state) (arrivalsFrom bytes pos)) (sym one-more)
+        ∙ ap (λ (r : List Arrival). line ++ ticksText (ticks - p .tick) (p .tick) (asked (p .state) a .state) r) (walked bytes pos .left)
+
+    next-fewer : (r : Next) → ((b : Arrival) (q : ℕ) → r ≡ Next.Found b q → (pos < q) × (q ≤ length bytes)) → nextLeft bytes r < suc (length bytes - pos)
+    next-fewer (Next.Found b q) f = let g = f b q refl in omega arith
+    next-fewer Next.Done f = omega arith
+
+    asked-fewer : stepsLeft bytes ticks presented < stepsLeft bytes ticks p
+    unfolding stepsLeft
+    asked-fewer =
+        let e : nextLeft bytes (p .next) ≡ suc (length bytes - pos) = ap (nextLeft bytes) found in
+        let f : nextLeft bytes (nextFrom bytes pos) < suc (length bytes - pos) = next-fewer (nextFrom bytes pos) (walked bytes pos .further) in
+        omega arith
+
+  module _ (idle : NoneDue (p .tick) (unrolled bytes (p .next))) where
+    abbrev ran : Place
+    ran = record { tick = p .tick + 1; next = p .next; state = tickCall (p .state) .state }
+
+    ticked-text : textFrom bytes ticks p ≡ tickText (p .tick) (tickCall (p .state) .answer) ++ textFrom bytes ticks ran
+    unfolding textFrom
+    ticked-text =
+        ap (λ (k : ℕ). ticksText k (p .tick) (p .state) (unrolled bytes (p .next))) one-more
+        ∙ tick-first (ticks - suc (p .tick)) (p .tick) (p .state) (unrolled bytes (p .next)) idle
+        ∙ ap (λ (t : ℕ). tickText (p .tick) (tickCall (p .state) .answer) ++ ticksText (ticks - t) t (tickCall (p .state) .state) (unrolled bytes (p .next))) (sym (add-one (p .tick)))
+
+    ticked-fewer : stepsLeft bytes ticks ran < stepsLeft bytes ticks p
+    unfolding stepsLeft
+    ticked-fewer = omega arith
+
+stepped :
+    (bytes : List ℕ) (ticks : ℕ) {l m x : List ℕ} {at r : ℕ} (p q : Place) → Wrote l at x m r → r ≤ at + 92 → at + 92 ≤ length l →
+    textFrom bytes ticks p ≡ x ++ textFrom bytes ticks q → stepsLeft bytes ticks q < stepsLeft bytes ticks p → q .tick ≤ ticks →
+    Stepped bytes ticks l at p m r q
+stepped bytes ticks {l} {m} {x} {at} {r} p q w h k e f g = record {
+  text =
+      ap (λ (y : List ℕ). take at l ++ y) e ∙ sym (append-assoc (take at l) x (textFrom bytes ticks q))
+      ∙ ap (λ (y : List ℕ). y ++ textFrom bytes ticks q) (sym (front w (omega arith)));
+  behind = behind w (omega arith);
+  starts = omega (arith, w .next);
+  ends = h;
+  same = wrote-length w;
+  fewer = f;
+  within = g;
+}
+
+module _ (bytes : List ℕ) (ticks : ℕ) {l m : List ℕ} {at r : ℕ} (p q : Place) (room : at + 92 ≤ length l) (early : p .tick < ticks) (few : r ≤ at + 92) where
+  pub step-asked :
+      (a : Arrival) (pos : ℕ) → p .next ≡ Next.Found a pos → a .tick ≡ p .tick → Wrote l at (askedText (p .tick) (a .id) (asked (p .state) a .answer)) m r →
+      q ≡ record { tick = p .tick; next = nextFrom bytes pos; state = asked (p .state) a .state } → Stepped bytes ticks l at p m r q
+  step-asked a pos f d w e =
+      subst (Stepped bytes ticks l at p m r) (sym e)
+      (stepped bytes ticks p _ w few room (asked-text bytes ticks p early a pos f d) (asked-fewer bytes ticks p early a pos f d) (omega arith))
+
+  step-ticked :
+      NoneDue (p .tick) (unrolled bytes (p .next)) → Wrote l at (tickText (p .tick) (tickCall (p .state) .answer)) m r →
+      q ≡ record { tick = p .tick + 1; next = p .next; state = tickCall (p .state) .state } → Stepped bytes ticks l at p m r q
+  step-ticked d w e =
+      subst (Stepped bytes ticks l at p m r) (sym e)
+      (stepped bytes ticks p _ w few room (ticked-text bytes ticks p early d) (ticked-fewer bytes ticks p early d) (omega arith))
+
+  pub step-later :
+      (a : Arrival) (pos : ℕ) → p .next ≡ Next.Found a pos → (a .tick ≡ p .tick → ⊥) → Wrote l at (tickText (p .tick) (tickCall (p .state) .answer)) m r →
+      q ≡ record { tick = p .tick + 1; next = p .next; state = tickCall (p .state) .state } → Stepped bytes ticks l at p m r q
+  unfolding unrolled
+  step-later a pos f n w e = step-ticked (subst (λ (x : Next). NoneDue (p .tick) (unrolled bytes x)) (sym f) n) w e
+
+  pub step-last :
+      p .next ≡ Next.Done → Wrote l at (tickText (p .tick) (tickCall (p .state) .answer)) m r →
+      q ≡ record { tick = p .tick + 1; next = p .next; state = tickCall (p .state) .state } → Stepped bytes ticks l at p m r q
+  unfolding unrolled
+  step-last f w e = step-ticked (subst (λ (x : Next). NoneDue (p .tick) (unrolled bytes x)) (sym f) tt) w e
+
+-- a buffer being filled: l as it was lent, m as it is now
+pub record Filling (bytes : List ℕ) (ticks : ℕ) (l : List ℕ) (p : Place) (m : List ℕ) (at : ℕ) (q : Place) : Type 0 where
+  pub text : textFrom bytes ticks p ≡ take at m ++ textFrom bytes ticks q
+  pub behind : drop at m ≡ drop at l
+  pub same : length m ≡ length l
+  pub moved : ((at ≡ 0) × (p ≡ q)) ⊎ (stepsLeft bytes ticks q < stepsLeft bytes ticks p)
+
+module _ (bytes : List ℕ) (ticks : ℕ) (l : List ℕ) (p : Place) where
+  pub filling-starts : Filling bytes ticks l p l 0 p
+  filling-starts = record { text = refl; behind = refl; same = refl; moved = inl (refl, refl) }
+
+  pub filling-on : (m n : List ℕ) (at r : ℕ) (q z : Place) → Filling bytes ticks l p m at q → Stepped bytes ticks m at q n r z → Filling bytes ticks l p n r z
+  filling-on m n at r q z f s = record {
+    text = f .text ∙ s .text;
+    behind = s .behind ∙ further;
+    same = s .same ∙ f .same;
+    moved = inr (⊎-elim first (λ h. omega (arith, s .fewer)) (f .moved));
+  }
+    where
+      first : (at ≡ 0) × (p ≡ q) → stepsLeft bytes ticks z < stepsLeft bytes ticks p
+      first e = subst (λ (x : Place). stepsLeft bytes ticks z < stepsLeft bytes ticks x) (sym (e .1)) (s .fewer)
+
+      back : at + (r - at) ≡ r
+      back = omega (arith, s .starts)
+
+      further : drop r m ≡ drop r l
+      further =
+          ap (λ (n : ℕ). drop n m) (sym back) ∙ sym (drop-drop (r - at) at m) ∙ ap (drop (r - at)) (f .behind) ∙ drop-drop (r - at) at l
+          ∙ ap (λ (n : ℕ). drop n l) back
+
+  -- it stops where no tick is left, or where the next step might not fit
+  module _ (m : List ℕ) (at : ℕ) (q : Place) (f : Filling bytes ticks l p m at q) (fits : at ≤ length l) where
+    pub filling-over : ticks ≤ q .tick → Filled bytes ticks l p m at q
+    filling-over h = record {
+      text = f .text;
+      behind = f .behind;
+      fits = fits;
+      same = f .same;
+      stops = inl h;
+      fewer = λ e k. ⊎-elim (λ o. absurd (omega (arith, ap (λ (x : Place). x .tick) (o .1)))) (λ g. g) (f .moved);
+    }
+
+    pub filling-full : length l < at + 92 → Filled bytes ticks l p m at q
+    filling-full h = record {
+      text = f .text;
+      behind = f .behind;
+      fits = fits;
+      same = f .same;
+      stops = inr h;
+      fewer = λ e k. ⊎-elim (λ o. absurd (omega (arith, o .0))) (λ g. g) (f .moved);
+    }

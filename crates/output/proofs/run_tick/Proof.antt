@@ -1,0 +1,33 @@
+-- `output::run_tick` meets its contract: the tick call's answer and state.
+use mathlib.Core.Path.{refl, ap}
+use native.Mathlib.Omega.{arith}
+use Prim.Native.Nat.{_+_}
+use Rattle.output.proofs.Laws.{place-same}
+use Rattle.text.specs.Buffer.{wrote-same}
+use Rattle.output.specs.Output.{tickText}
+use Rattle.rules.specs.declared.Ticked.{Ticked}
+use borrow.Author.Needs.{needs}
+use Rattle.output.proofs.run_tick.Statement.{statement}
+use Rattle.output.proofs.run_tick.Tie as tie
+
+tick-requires : tie.Need-tick-requires
+tick-requires c κs = search needs
+
+tick-lines-requires : tie.Need-tick-lines-requires
+tick-lines-requires c κs = search needs
+
+add-t12 : tie.Need-add-t12
+add-t12 c = search needs
+
+same-length : tie.Need-same-length
+same-length c = search needs
+
+returns : tie.Need-returns
+returns c = (
+  omega arith,
+  wrote-same (ap (λ (x : Ticked). tickText (c .before .before .before .before .before .before .before .before .before .args .p .tick) (x .answer)) (c .before .before .before .before .before .before .tick .ensures)) (c .before .before .before .tick-lines .ensures .1),
+  place-same (c .before .before .before .before .before .before .before .before .before .args .p .tick + 1) refl (ap (λ (x : Ticked). x .state) (c .before .before .before .before .before .before .tick .ensures)),
+)
+
+pub run-tick-spec : {M : Type 1} → statement M
+run-tick-spec = tie.close (tie.spec tick-requires tick-lines-requires add-t12 same-length returns)

@@ -1,0 +1,43 @@
+-- What some plans print, computed.
+use Prim.Native.Nat.{ℕ}
+use mathlib.Core.Path.{_≡_, refl}
+use mathlib.Core.List.{List, [], _∷_}
+use Rattle.lists.specs.Lists.{overlay}
+use Rattle.text.specs.Cases as text
+use Rattle.plan.specs.Plan as plan
+use Rattle.output.specs.Output.{scheduleText, rules}
+
+-- document 01's listing
+the-listing :
+    scheduleText (84 ∷ 44 ∷ 51 ∷ 44 ∷ 54 ∷ 44 ∷ 50 ∷ 44 ∷ 54 ∷ 10 ∷ 83 ∷ 44 ∷ 50 ∷ 44 ∷ 48 ∷ 44 ∷ 53 ∷ 44 ∷ 50 ∷ 10 ∷ 65 ∷ 44 ∷ 51 ∷ 44 ∷ 55 ∷ 44 ∷ 52 ∷ 10 ∷ 82 ∷ 44 ∷ 56 ∷ 10 ∷ []) ≡
+    66 ∷ 44 ∷ 48 ∷ 44 ∷ 54 ∷ 10 ∷ 66 ∷ 44 ∷ 83 ∷ 44 ∷ 50 ∷ 10 ∷ 86 ∷ 44 ∷ 49 ∷ 10 ∷ 88 ∷ 44 ∷ 48 ∷ 44 ∷ 73 ∷ 44 ∷ 48 ∷ 44 ∷ 48 ∷ 10 ∷ 88 ∷ 44 ∷ 49 ∷ 44 ∷ 73 ∷ 44 ∷ 48 ∷ 44 ∷ 48 ∷ 10 ∷ 88 ∷ 44 ∷ 50 ∷ 44 ∷ 73 ∷ 44 ∷ 48 ∷ 44 ∷ 48 ∷ 10 ∷ 88 ∷ 44 ∷ 51 ∷ 44 ∷ 65 ∷ 44 ∷ 55 ∷ 44 ∷ 48 ∷ 10 ∷ 88 ∷ 44 ∷ 52 ∷ 44 ∷ 65 ∷ 44 ∷ 55 ∷ 44 ∷ 48 ∷ 10 ∷ 88 ∷ 44 ∷ 53 ∷ 44 ∷ 65 ∷ 44 ∷ 55 ∷ 44 ∷ 48 ∷ 10 ∷ 88 ∷ 44 ∷ 54 ∷ 44 ∷ 65 ∷ 44 ∷ 55 ∷ 44 ∷ 48 ∷ 10 ∷ 70 ∷ 44 ∷ 54 ∷ 44 ∷ 55 ∷ 44 ∷ 52 ∷ 10 ∷ 88 ∷ 44 ∷ 55 ∷ 44 ∷ 84 ∷ 44 ∷ 48 ∷ 44 ∷ 48 ∷ 10 ∷ []
+unfolding rules text.rules plan.rules overlay
+the-listing = refl
+
+-- a refused plan prints its Z line alone
+refused-plan :
+    scheduleText (82 ∷ 44 ∷ 56 ∷ []) ≡
+    90 ∷ 44 ∷ 56 ∷ 44 ∷ 49 ∷ 10 ∷ []
+unfolding rules text.rules plan.rules overlay
+refused-plan = refl
+
+-- no tick: the head alone; kind 0 prints B,S,0
+no-ticks :
+    scheduleText (84 ∷ 44 ∷ 51 ∷ 44 ∷ 54 ∷ 44 ∷ 50 ∷ 44 ∷ 54 ∷ 10 ∷ 83 ∷ 44 ∷ 48 ∷ 44 ∷ 49 ∷ 44 ∷ 48 ∷ 44 ∷ 48 ∷ 10 ∷ 65 ∷ 44 ∷ 48 ∷ 44 ∷ 55 ∷ 44 ∷ 52 ∷ 10 ∷ 82 ∷ 44 ∷ 48 ∷ 10 ∷ []) ≡
+    66 ∷ 44 ∷ 48 ∷ 44 ∷ 50 ∷ 10 ∷ 66 ∷ 44 ∷ 83 ∷ 44 ∷ 48 ∷ 10 ∷ 86 ∷ 44 ∷ 49 ∷ 10 ∷ []
+unfolding rules text.rules plan.rules overlay
+no-ticks = refl
+
+-- an A line at the end is not presented
+at-the-end :
+    scheduleText (84 ∷ 44 ∷ 51 ∷ 44 ∷ 54 ∷ 44 ∷ 50 ∷ 44 ∷ 54 ∷ 10 ∷ 83 ∷ 44 ∷ 48 ∷ 44 ∷ 49 ∷ 44 ∷ 48 ∷ 44 ∷ 48 ∷ 10 ∷ 65 ∷ 44 ∷ 49 ∷ 44 ∷ 55 ∷ 44 ∷ 52 ∷ 10 ∷ 82 ∷ 44 ∷ 49 ∷ 10 ∷ []) ≡
+    66 ∷ 44 ∷ 48 ∷ 44 ∷ 50 ∷ 10 ∷ 66 ∷ 44 ∷ 83 ∷ 44 ∷ 48 ∷ 10 ∷ 86 ∷ 44 ∷ 49 ∷ 10 ∷ 88 ∷ 44 ∷ 48 ∷ 44 ∷ 73 ∷ 44 ∷ 48 ∷ 44 ∷ 48 ∷ 10 ∷ []
+unfolding rules text.rules plan.rules overlay
+at-the-end = refl
+
+-- two rows, a table that is not admitted: drop and release in one tick
+drops :
+    scheduleText (84 ∷ 44 ∷ 48 ∷ 44 ∷ 50 ∷ 44 ∷ 49 ∷ 44 ∷ 50 ∷ 10 ∷ 84 ∷ 44 ∷ 48 ∷ 44 ∷ 50 ∷ 44 ∷ 50 ∷ 44 ∷ 50 ∷ 10 ∷ 83 ∷ 44 ∷ 48 ∷ 44 ∷ 50 ∷ 44 ∷ 48 ∷ 44 ∷ 48 ∷ 10 ∷ 82 ∷ 44 ∷ 51 ∷ 10 ∷ []) ≡
+    66 ∷ 44 ∷ 48 ∷ 44 ∷ 49 ∷ 10 ∷ 66 ∷ 44 ∷ 49 ∷ 44 ∷ 48 ∷ 10 ∷ 66 ∷ 44 ∷ 83 ∷ 44 ∷ 48 ∷ 10 ∷ 86 ∷ 44 ∷ 48 ∷ 10 ∷ 88 ∷ 44 ∷ 48 ∷ 44 ∷ 84 ∷ 44 ∷ 48 ∷ 44 ∷ 48 ∷ 10 ∷ 88 ∷ 44 ∷ 49 ∷ 44 ∷ 84 ∷ 44 ∷ 49 ∷ 44 ∷ 48 ∷ 10 ∷ 88 ∷ 44 ∷ 50 ∷ 44 ∷ 84 ∷ 44 ∷ 48 ∷ 44 ∷ 49 ∷ 10 ∷ []
+unfolding rules text.rules plan.rules overlay
+drops = refl

@@ -1,0 +1,255 @@
+// What `schedule` prints, piece by piece, in a lent buffer.
+ghost use mathlib.Core.Path.{_≡_};
+ghost use Prim.Native.Nat.{ℕ, _+_, _*_, _<_, _≤_};
+ghost use lib.ListN.{length, take};
+ghost use Rattle.admission.specs.Admission.{admissionCall};
+ghost use Rattle.rules.specs.Calls.{tickCall};
+ghost use Rattle.text.specs.Buffer.{Wrote, ifRoom};
+ghost use Rattle.text.specs.Lines.{lineBytes, planRefusedLine};
+ghost use Rattle.plan.specs.Plan.{nextFrom};
+ghost use Rattle.plan.specs.Refusal.{number};
+ghost use Rattle.output.specs.Output.{boundsText, headText, verdictText, asked, askedText, occupantLine, finishText, tickText};
+ghost use Rattle.output.specs.Pieces.{firstPlace, Stepped, Filled};
+use admission::Admission;
+use plan::Arrival;
+use plan::Next;
+use plan::PlanRefusal;
+use queue::Finish;
+use rules::Occupant;
+use rules::TickAnswer;
+use table::Checked;
+use table::State;
+use table::Table;
+use text::Line;
+
+// Where the printing stands: the next tick, the next A line and the state.
+pub struct Place {
+    pub tick: u32,
+    pub next: Next,
+    pub state: State,
+}
+
+// Where the printing stands after a piece, and how far the buffer is filled.
+pub struct Printed {
+    pub place: Place,
+    pub at: usize,
+}
+
+// The most bytes that a step writes: an X line and an F line.
+pub const STEP_ROOM: usize = 92;
+
+// The most bytes of the head: a B line for each task, the server's, and the V line.
+pub const HEAD_ROOM: usize = 828;
+
+// The Z line of a refused plan, from the buffer's start.
+pub fn refused(out: &mut [u8], k: PlanRefusal, line: u32) -> usize
+    ensures { λ r. ⌜ (r ≤ 46) × (Wrote (now (out .entry)) 0 (ifRoom 46 (now (out .entry)) 0 (lineBytes (planRefusedLine (number k) line))) (now (out .exit)) r) ⌝ }
+{
+    let n = plan::refusal_number(k);
+    text::write_line(out, 0, text::plan_refused_line(n, line))
+}
+
+// The B line of each of n tasks, from the buffer's start.
+fn bounds_lines(out: &mut [u8], bounds: [u32; 16], n: u32) -> usize
+    requires { ⌜ (n ≤ 16) × (828 ≤ length (now out)) ⌝ }
+    ensures { λ r. ⌜ (length bounds ≡ 16) × (r ≤ n * 46) × (Wrote (now (out .entry)) 0 (boundsText 0 (take n bounds)) (now (out .exit)) r) ⌝ }
+{
+    let mut at: usize = 0;
+    let mut i: u32 = 0;
+    while i < n {
+        let b = bounds[i as usize];
+        at = text::write_line(out, at, text::task_bound_line(i, b));
+        i += 1;
+    }
+    at
+}
+
+// The X line of a tick.
+fn occupant_line(t: u32, who: Occupant, drops: u32) -> Line
+    ensures { λ r. ⌜ r ≡ occupantLine t who drops ⌝ }
+{
+    match who {
+        Occupant::Idle => text::tick_line(t, b'I', 0, drops),
+        Occupant::Task(i) => text::tick_line(t, b'T', i, drops),
+        Occupant::Request(id) => text::tick_line(t, b'A', id, drops),
+    }
+}
+
+// The N line of a request that was refused.
+fn asked_line(out: &mut [u8], at: usize, t: u32, id: u32, answer: Checked) -> usize
+    requires { ⌜ at + 46 ≤ length (now out) ⌝ }
+    ensures { λ r. ⌜ (r ≤ at + 46) × (Wrote (now (out .entry)) at (askedText t id answer) (now (out .exit)) r) ⌝ }
+{
+    match answer {
+        Checked::Passed => at,
+        Checked::Refused(r) => {
+            let n = plan::call_number(r);
+            text::write_line(out, at, text::refused_line(t, id, n))
+        }
+    }
+}
+
+// The F line of a tick that finished a request.
+fn finish_lines(out: &mut [u8], at: usize, t: u32, finish: Finish) -> usize
+    requires { ⌜ at + 46 ≤ length (now out) ⌝ }
+    ensures { λ r. ⌜ (r ≤ at + 46) × (Wrote (now (out .entry)) at (finishText t finish) (now (out .exit)) r) ⌝ }
+{
+    match finish {
+        Finish::Nothing => at,
+        Finish::Finished { id, response } => {
+            text::write_line(out, at, text::finish_line(t, id, response))
+        }
+    }
+}
+
+// The lines of a tick: X, then F if a request finished.
+fn tick_lines(out: &mut [u8], at: usize, t: u32, answer: TickAnswer) -> usize
+    requires { ⌜ at + 92 ≤ length (now out) ⌝ }
+    ensures { λ r. ⌜ (r ≤ at + 92) × (Wrote (now (out .entry)) at (tickText t answer) (now (out .exit)) r) ⌝ }
+{
+    match answer {
+        TickAnswer::Ran {
+            occupant,
+            drops,
+            finish,
+        } => {
+            let x = occupant_line(t, occupant, drops);
+            let a = text::write_line(out, at, x);
+            finish_lines(out, a, t, finish)
+        }
+        TickAnswer::Refused(_) => at,
+    }
+}
+
+// The server's B line and the V line.
+fn verdict_lines(out: &mut [u8], at: usize, serverbound: u32, admitted: bool) -> usize
+    requires { ⌜ at + 92 ≤ length (now out) ⌝ }
+    ensures { λ r. ⌜ (r ≤ at + 92) × (Wrote (now (out .entry)) at (verdictText serverbound admitted) (now (out .exit)) r) ⌝ }
+{
+    let a = text::write_line(out, at, text::server_bound_line(serverbound));
+    text::write_line(out, a, text::admitted_line(admitted))
+}
+
+// How many of n tasks a table holds.
+fn in_use(n: u32) -> u32
+    ensures { λ r. ⌜ (r ≤ 16) × (r ≤ n) × (n ≤ 16 → r ≡ n) × (16 ≤ n → r ≡ 16) ⌝ }
+{
+    if n < Table::MAX_TASKS {
+        n
+    } else {
+        Table::MAX_TASKS
+    }
+}
+
+fn head_lines(out: &mut [u8], n: u32, a: Admission) -> usize
+    requires { ⌜ 828 ≤ length (now out) ⌝ }
+    ensures { λ r. ⌜ (r ≤ 828) × (Wrote (now (out .entry)) 0 (headText n a) (now (out .exit)) r) ⌝ }
+{
+    let bounds = a.bounds;
+    let at = bounds_lines(out, bounds, in_use(n));
+    verdict_lines(out, at, a.serverbound, a.admitted)
+}
+
+// The head of an accepted plan's output, from the buffer's start: nothing where HEAD_ROOM bytes are not there.
+pub fn head(out: &mut [u8], table: Table) -> usize
+    ensures { λ r. ⌜ (r ≤ 828) × (Wrote (now (out .entry)) 0 (ifRoom 828 (now (out .entry)) 0 (headText (table .n) (admissionCall table))) (now (out .exit)) r) ⌝ }
+{
+    if out.len() < HEAD_ROOM {
+        return 0;
+    }
+    let n = table.n;
+    head_lines(out, n, admission::admit(table))
+}
+
+// Where the printing of an accepted plan starts.
+pub fn first(plan: &[u8], table: Table) -> Place
+    ensures { λ r. ⌜ r ≡ firstPlace (now (plan .entry)) table ⌝ }
+{
+    Place {
+        tick: 0,
+        next: plan::next_arrival(plan, 0),
+        state: table.fresh(),
+    }
+}
+
+// Presents the A line a, which is due; q is where the line after it starts.
+fn present(plan: &[u8], out: &mut [u8], at: usize, p: Place, a: Arrival, q: usize) -> Printed
+    requires { ⌜ at + 92 ≤ length (now out) ⌝ }
+    ensures { λ r. ⌜ (r .at ≤ at + 92) × (Wrote (now (out .entry)) at (askedText (p .tick) (a .id) (asked (p .state) a .answer)) (now (out .exit)) (r .at)) × (r .place ≡ record { tick = p .tick; next = nextFrom (now (plan .entry)) q; state = asked (p .state) a .state }) ⌝ }
+{
+    let state = p.state;
+    let m = scheduler::request(state, a.id, a.work);
+    let answer = m.answer;
+    let moved = m.state;
+    let end = asked_line(out, at, p.tick, a.id, answer);
+    Printed {
+        place: Place {
+            tick: p.tick,
+            next: plan::next_arrival(plan, q),
+            state: moved,
+        },
+        at: end,
+    }
+}
+
+// Runs a tick that no A line is due for any more.
+fn run_tick(out: &mut [u8], at: usize, p: Place) -> Printed
+    requires { ⌜ (at + 92 ≤ length (now out)) × (p .tick < 4294967295) ⌝ }
+    ensures { λ r. ⌜ (r .at ≤ at + 92) × (Wrote (now (out .entry)) at (tickText (p .tick) (tickCall (p .state) .answer)) (now (out .exit)) (r .at)) × (r .place ≡ record { tick = p .tick + 1; next = p .next; state = tickCall (p .state) .state }) ⌝ }
+{
+    let state = p.state;
+    let next = p.next;
+    let x = scheduler::tick(state);
+    let answer = x.answer;
+    let moved = x.state;
+    let end = tick_lines(out, at, p.tick, answer);
+    Printed {
+        place: Place {
+            tick: p.tick + 1,
+            next,
+            state: moved,
+        },
+        at: end,
+    }
+}
+
+// One step: an A line that is due, or else the tick.
+fn step(plan: &[u8], ticks: u32, out: &mut [u8], at: usize, p: Place) -> Printed
+    requires { ⌜ (at + 92 ≤ length (now out)) × (p .tick < ticks) ⌝ }
+    ensures { λ r. ⌜ Stepped (now (plan .entry)) ticks (now (out .entry)) at p (now (out .exit)) (r .at) (r .place) ⌝ }
+{
+    let next = p.next;
+    match next {
+        Next::Found(a, q) => {
+            if a.tick == p.tick {
+                present(plan, out, at, p, a, q)
+            } else {
+                run_tick(out, at, p)
+            }
+        }
+        Next::Done => run_tick(out, at, p),
+    }
+}
+
+// Fills the buffer from its start with what is printed from a place on, step by step as far as it has room.
+pub fn fill(plan: &[u8], ticks: u32, out: &mut [u8], p: Place) -> Printed
+    ensures { λ r. ⌜ Filled (now (plan .entry)) ticks (now (out .entry)) p (now (out .exit)) (r .at) (r .place) ⌝ }
+{
+    let n = out.len();
+    if n < STEP_ROOM {
+        return Printed { place: p, at: 0 };
+    }
+    let last = n - STEP_ROOM;
+    let mut place = p;
+    let mut at: usize = 0;
+    while place.tick < ticks {
+        if last < at {
+            return Printed { place, at };
+        }
+        let r = step(plan, ticks, out, at, place);
+        let next = r.place;
+        place = next;
+        at = r.at;
+    }
+    Printed { place, at }
+}

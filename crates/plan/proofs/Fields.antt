@@ -1,0 +1,172 @@
+-- Laws of a line's fields.
+use Prim.Native.Nat.{ℕ, zero, suc, _+_, _-_, _*_, _≤_, _<_}
+use mathlib.Core.Path.{_≡_, refl, sym, ap, _∙_, subst}
+use mathlib.Core.List.{List, [], _∷_}
+use mathlib.Core.Bool.{Bool, true, false, cond}
+use native.Mathlib.Omega.{arith}
+use borrow.Author.Tests.{eq-eqb, ne-eqb, ltb-true, ltb-false}
+use lib.ListN.{length, getD, take, drop}
+use lib.Dec.{ltb, eqb}
+use Rattle.plan.specs.declared.Number.{Number}
+use Rattle.plan.specs.declared.Field.{Field}
+use Rattle.plan.specs.declared.Two.{Two}
+use Rattle.plan.specs.declared.Three.{Three}
+use Rattle.plan.specs.declared.Four.{Four}
+use Rattle.plan.specs.declared.Line.{Line}
+use Rattle.plan.specs.Text.{Pieces, end, piece, split, upTo, numberOf}
+use Rattle.plan.specs.Lines.{Numbers, wrong, are, push, joined, eachNumber, numbers, onward, oneOf, twoOf, threeOf, fourOf, oneIn, twoIn, threeIn, fourIn, andTwo, andThree, andFour, byLetter, lineOf, taskLine, serverLine, arrivalLine, runLine}
+use Rattle.plan.proofs.Laws.{part-more, part-last}
+
+-- a field: e is where it ends, f what its bytes are
+module _ (s : List ℕ) (a e : ℕ) (found : e ≡ a + upTo 44 (drop a s)) (f : Number) (is : f ≡ numberOf (take (e - a) (drop a s))) where
+  more : e < length s → numbers (drop a s) ≡ joined f (numbers (drop (e + 1) s))
+  unfolding numbers
+  more h = ap eachNumber (part-more 44 s a e found h) ∙ ap (λ (n : Number). joined n (eachNumber (split 44 (drop (e + 1) s)))) (sym is)
+
+  last : length s ≤ e → numbers (drop a s) ≡ joined f (are [])
+  unfolding numbers
+  last h = ap eachNumber (part-last 44 s a e found h) ∙ ap (λ (n : Number). joined n (are [])) (sym is)
+
+  pub field-more : (v : ℕ) → f ≡ Number.Is v → e < length s → onward s (Field.More v (e + 1)) (numbers (drop a s))
+  unfolding onward
+  field-more v q h = (omega arith, more h ∙ ap (λ (n : Number). joined n (numbers (drop (e + 1) s))) q)
+
+  pub field-last : (v : ℕ) → f ≡ Number.Is v → length s ≤ e → onward s (Field.Last v) (numbers (drop a s))
+  unfolding onward
+  field-last v q h = last h ∙ ap (λ (n : Number). joined n (are [])) q
+
+  wrong-at : (b : Bool) → ltb e (length s) ≡ b → f ≡ Number.Wrong → numbers (drop a s) ≡ wrong
+  wrong-at true t q = more (ltb-true _ _ t) ∙ ap (λ (n : Number). joined n (numbers (drop (e + 1) s))) q
+  wrong-at false t q = last (ltb-false _ _ t) ∙ ap (λ (n : Number). joined n (are [])) q
+
+  pub field-wrong : f ≡ Number.Wrong → onward s Field.Wrong (numbers (drop a s))
+  unfolding onward
+  field-wrong q = wrong-at (ltb e (length s)) refl q
+
+-- what a field that was read tells
+module _ (s : List ℕ) (r : Field) (ns : Numbers) (o : onward s r ns) where
+  pub told-next : (v n : ℕ) → r ≡ Field.More v n → n ≤ length s
+  unfolding onward
+  told-next v n e = (subst (λ (x : Field). onward s x ns) e o) .0
+
+  told-more : (v n : ℕ) → r ≡ Field.More v n → ns ≡ push v (numbers (drop n s))
+  unfolding onward
+  told-more v n e = (subst (λ (x : Field). onward s x ns) e o) .1
+
+  told-last : (v : ℕ) → r ≡ Field.Last v → ns ≡ are (v ∷ [])
+  unfolding onward
+  told-last v e = subst (λ (x : Field). onward s x ns) e o
+
+  told-wrong : r ≡ Field.Wrong → ns ≡ wrong
+  unfolding onward
+  told-wrong e = subst (λ (x : Field). onward s x ns) e o
+
+  not-one : (v : ℕ) (n : Number) (ms : Numbers) → oneOf (push v (joined n ms)) ≡ Number.Wrong
+  unfolding oneOf
+  not-one v Number.Wrong ms = refl
+  not-one v (Number.Is w) wrong = refl
+  not-one v (Number.Is w) (are vs) = refl
+
+  not-one-in : (v : ℕ) (ps : Pieces) → oneOf (push v (eachNumber ps)) ≡ Number.Wrong
+  not-one-in v (end f) = not-one v (numberOf f) (are [])
+  not-one-in v (piece f fs) = not-one v (numberOf f) (eachNumber fs)
+
+  pub one-more : (v n : ℕ) → r ≡ Field.More v n → Number.Wrong ≡ oneOf ns
+  unfolding numbers
+  one-more v n e = sym (ap oneOf (told-more v n e) ∙ not-one-in v (split 44 (drop n s)))
+
+  pub one-last : (v : ℕ) → r ≡ Field.Last v → Number.Is v ≡ oneOf ns
+  unfolding oneOf
+  one-last v e = sym (ap oneOf (told-last v e))
+
+  pub one-wrong : r ≡ Field.Wrong → Number.Wrong ≡ oneOf ns
+  unfolding oneOf
+  one-wrong e = sym (ap oneOf (told-wrong e))
+
+  two-push : (v : ℕ) (ms : Numbers) → twoOf (push v ms) ≡ andTwo v (oneOf ms)
+  unfolding oneOf twoOf
+  two-push v wrong = refl
+  two-push v (are vs) = refl
+
+  pub two-more : (v n : ℕ) → r ≡ Field.More v n → (x y : Number) → x ≡ oneOf (numbers (drop n s)) → x ≡ y → andTwo v y ≡ twoOf ns
+  two-more v n e x y p q = sym (ap twoOf (told-more v n e) ∙ two-push v (numbers (drop n s)) ∙ ap (andTwo v) (sym p ∙ q))
+
+  pub two-last : (v : ℕ) → r ≡ Field.Last v → Two.Wrong ≡ twoOf ns
+  unfolding twoOf
+  two-last v e = sym (ap twoOf (told-last v e))
+
+  pub two-wrong : r ≡ Field.Wrong → Two.Wrong ≡ twoOf ns
+  unfolding twoOf
+  two-wrong e = sym (ap twoOf (told-wrong e))
+
+  three-push : (v : ℕ) (ms : Numbers) → threeOf (push v ms) ≡ andThree v (twoOf ms)
+  unfolding twoOf threeOf
+  three-push v wrong = refl
+  three-push v (are vs) = refl
+
+  pub three-more : (v n : ℕ) → r ≡ Field.More v n → (x y : Two) → x ≡ twoOf (numbers (drop n s)) → x ≡ y → andThree v y ≡ threeOf ns
+  three-more v n e x y p q = sym (ap threeOf (told-more v n e) ∙ three-push v (numbers (drop n s)) ∙ ap (andThree v) (sym p ∙ q))
+
+  pub three-last : (v : ℕ) → r ≡ Field.Last v → Three.Wrong ≡ threeOf ns
+  unfolding threeOf
+  three-last v e = sym (ap threeOf (told-last v e))
+
+  pub three-wrong : r ≡ Field.Wrong → Three.Wrong ≡ threeOf ns
+  unfolding threeOf
+  three-wrong e = sym (ap threeOf (told-wrong e))
+
+  four-push : (v : ℕ) (ms : Numbers) → fourOf (push v ms) ≡ andFour v (threeOf ms)
+  unfolding threeOf fourOf
+  four-push v wrong = refl
+  four-push v (are vs) = refl
+
+  pub four-more : (v n : ℕ) → r ≡ Field.More v n → (x y : Three) → x ≡ threeOf (numbers (drop n s)) → x ≡ y → andFour v y ≡ fourOf ns
+  four-more v n e x y p q = sym (ap fourOf (told-more v n e) ∙ four-push v (numbers (drop n s)) ∙ ap (andFour v) (sym p ∙ q))
+
+  pub four-last : (v : ℕ) → r ≡ Field.Last v → Four.Wrong ≡ fourOf ns
+  unfolding fourOf
+  four-last v e = sym (ap fourOf (told-last v e))
+
+  pub four-wrong : r ≡ Field.Wrong → Four.Wrong ≡ fourOf ns
+  unfolding fourOf
+  four-wrong e = sym (ap fourOf (told-wrong e))
+
+-- a line by its letter
+pub short : (s : List ℕ) → length s < 2 → Line.Bad ≡ lineOf s
+unfolding lineOf
+short [] h = refl
+short (x ∷ []) h = refl
+short (x ∷ y ∷ t) h = absurd (omega arith)
+
+pub no-comma : (s : List ℕ) → 2 ≤ length s → (getD s 1 0 ≡ 44 → ⊥) → Line.Bad ≡ lineOf s
+unfolding lineOf
+no-comma [] h n = refl
+no-comma (x ∷ []) h n = refl
+no-comma (x ∷ y ∷ t) h n = simp (ne-eqb _ _ n)
+
+lettered : (s : List ℕ) → 2 ≤ length s → getD s 1 0 ≡ 44 → lineOf s ≡ byLetter (getD s 0 0) (numbers (drop 2 s))
+unfolding lineOf
+lettered [] h n = absurd (omega arith)
+lettered (x ∷ []) h n = absurd (omega arith)
+lettered (x ∷ y ∷ t) h n = simp (eq-eqb _ _ n)
+
+module _ (s : List ℕ) (h : 2 ≤ length s) (k : getD s 1 0 ≡ 44) where
+  pub is-task : getD s 0 0 ≡ 84 → (q : Four) → q ≡ fourOf (numbers (drop 2 s)) → (l : Line) → l ≡ taskLine q → l ≡ lineOf s
+  unfolding byLetter
+  is-task e q p l g = g ∙ ap taskLine p ∙ sym (lettered s h k ∙ simp e)
+
+  pub is-server : getD s 0 0 ≡ 83 → (q : Four) → q ≡ fourOf (numbers (drop 2 s)) → (l : Line) → l ≡ serverLine q → l ≡ lineOf s
+  unfolding byLetter
+  is-server e q p l g = g ∙ ap serverLine p ∙ sym (lettered s h k ∙ simp e)
+
+  pub is-arrival : getD s 0 0 ≡ 65 → (q : Three) → q ≡ threeOf (numbers (drop 2 s)) → (l : Line) → l ≡ arrivalLine q → l ≡ lineOf s
+  unfolding byLetter
+  is-arrival e q p l g = g ∙ ap arrivalLine p ∙ sym (lettered s h k ∙ simp e)
+
+  pub is-run : getD s 0 0 ≡ 82 → (q : Number) → q ≡ oneOf (numbers (drop 2 s)) → (l : Line) → l ≡ runLine q → l ≡ lineOf s
+  unfolding byLetter
+  is-run e q p l g = g ∙ ap runLine p ∙ sym (lettered s h k ∙ simp e)
+
+  pub is-none : (getD s 0 0 ≡ 84 → ⊥) → (getD s 0 0 ≡ 83 → ⊥) → (getD s 0 0 ≡ 65 → ⊥) → (getD s 0 0 ≡ 82 → ⊥) → Line.Bad ≡ lineOf s
+  unfolding byLetter
+  is-none x y z w = sym (lettered s h k ∙ simp (ne-eqb _ 84 x, ne-eqb _ 83 y, ne-eqb _ 65 z, ne-eqb _ 82 w))

@@ -1,0 +1,6 @@
+pub mod Text
+pub mod Lines
+pub mod Refusal
+pub mod Plan
+pub mod ReadBack
+pub mod Cases

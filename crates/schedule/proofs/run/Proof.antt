@@ -1,0 +1,78 @@
+-- `schedule::run` ends: every filled buffer leaves fewer steps.
+use mathlib.Core.Path.{_≡_}
+use Prim.Native.Nat.{_≤_}
+use native.Mathlib.Omega.{arith}
+use lib.ListN.{length}
+use borrow.Author.Needs.{needs}
+use Rattle.output.specs.Pieces.{stepsLeft}
+use Rattle.schedule.proofs.run.Statement.{statement}
+use Rattle.schedule.proofs.run.Tie as tie
+
+abbrev Inv-loop : tie.InvT-loop
+Inv-loop text ticks out₀ h p₀ out p = (length out ≡ length out₀) × (828 ≤ length out₀)
+
+abbrev μ-loop : tie.MeasureT-loop
+μ-loop text ticks out₀ h p₀ out p = stepsLeft text ticks p
+
+head-requires : tie.Need-head-requires Inv-loop μ-loop
+head-requires c κs = search needs
+
+write-out-requires : tie.Need-write-out-requires Inv-loop μ-loop
+write-out-requires c κs = search needs
+
+same-length : tie.Need-same-length Inv-loop μ-loop
+same-length c = search needs
+
+returns : tie.Need-returns Inv-loop μ-loop
+returns c = search needs
+
+first-requires : tie.Need-first-requires Inv-loop μ-loop
+first-requires c κs = search needs
+
+loop-holds : tie.Need-loop-holds Inv-loop μ-loop
+loop-holds c = search needs
+
+fill-requires : tie.Need-fill-requires Inv-loop μ-loop
+fill-requires c κs = search needs
+
+write-out-requires-2 : tie.Need-write-out-requires-2 Inv-loop μ-loop
+write-out-requires-2 c κs = omega (arith, c .before .before .before .fill .ensures .fits, c .before .before .before .fill .ensures .same)
+
+same-length-2 : tie.Need-same-length-2 Inv-loop μ-loop
+same-length-2 c = search needs
+
+returns-2 : tie.Need-returns-2 Inv-loop μ-loop
+returns-2 c = search needs
+
+loop-less : tie.Need-loop-less Inv-loop μ-loop
+loop-less c = c .before .before .before .before .before .before .fill .ensures .fewer (c .before .before .before .before .before .before .before .before .if2 .taken) (omega arith)
+
+loop-again : tie.Need-loop-again Inv-loop μ-loop
+loop-again c = search needs
+
+same-length-3 : tie.Need-same-length-3 Inv-loop μ-loop
+same-length-3 c = search needs
+
+returns-3 : tie.Need-returns-3 Inv-loop μ-loop
+returns-3 c = search needs
+
+pub run-spec : {M : Type 1} → statement M
+run-spec =
+    tie.close
+    (tie.spec
+    Inv-loop
+    μ-loop
+    head-requires
+    write-out-requires
+    same-length
+    returns
+    first-requires
+    loop-holds
+    fill-requires
+    write-out-requires-2
+    same-length-2
+    returns-2
+    loop-less
+    loop-again
+    same-length-3
+    returns-3)

@@ -1,0 +1,50 @@
+// `schedule`: a plan on standard input, what it prints on standard output. All but the reading and the writing is the library's.
+ghost use Prim.Native.Nat.{ℕ, _≤_};
+ghost use lib.ListN.{length};
+use plan::Answer;
+use table::Table;
+
+// Writes the first n bytes of the buffer. False where the output is closed: there is nothing more to do then.
+fn write_out(out: &[u8], n: usize) -> bool
+    requires { ⌜ n ≤ length (now out) ⌝ }
+{
+    io::write_all(1, &out[..n])
+}
+
+// Prints an accepted plan: the head, then the ticks, a buffer at a time.
+fn run(text: &[u8], table: Table, ticks: u32, out: &mut [u8])
+    requires { ⌜ 828 ≤ length (now out) ⌝ }
+{
+    let h = output::head(out, table);
+    if !write_out(out, h) {
+        return;
+    }
+    let mut p = output::first(text, table);
+    while p.tick < ticks {
+        let r = output::fill(text, ticks, out, p);
+        if !write_out(out, r.at) {
+            return;
+        }
+        let next = r.place;
+        p = next;
+    }
+}
+
+fn main() {
+    let mut bytes = [0u8; 65537];
+    let mut out = [0u8; 65536];
+    let n = io::read_full(0, &mut bytes);
+    let text = &bytes[..n];
+    let r = plan::check(text);
+    let answer = r.answer;
+    match answer {
+        Answer::Refused(k) => {
+            let end = output::refused(&mut out, k, r.line);
+            write_out(&out, end);
+        }
+        Answer::Accepted => {
+            let table = r.table;
+            run(text, table, r.ticks, &mut out);
+        }
+    }
+}

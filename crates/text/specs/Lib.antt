@@ -1,0 +1,5 @@
+pub mod Decimal
+pub mod Buffer
+pub mod Lines
+pub mod ReadBack
+pub mod Cases

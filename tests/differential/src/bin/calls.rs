@@ -1,0 +1,122 @@
+//! `calls LIBRARY [COUNT] [SEED]`: random calls through the library, against the second implementation: result, next state, entries.
+//! LIBRARY is `linked` (built with that feature), `second` (the second implementation against itself), or a shared object's path.
+//! A call that tells them apart is made small and written to target/differential/.
+
+use std::collections::BTreeMap;
+use std::fs;
+use std::process::exit;
+use std::time::{Instant, SystemTime, UNIX_EPOCH};
+
+use differential::abi::{linked, Calls};
+use differential::call::{compare, random_call, shrink, table_call, Call};
+use differential::open::open;
+use differential::random::Random;
+use differential::{standin, state};
+use second::State;
+
+const FOLDER: &str = "target/differential";
+
+struct Fault {
+    state: State,
+    call: Call,
+}
+
+fn main() {
+    let mut arguments = std::env::args().skip(1);
+    let library = arguments.next().expect("linked, second, or the path of a shared object");
+    let count: u64 = arguments.next().map_or(200_000, |text| text.parse().expect("a count"));
+    let seed: u64 = arguments.next().map_or_else(clock_seed, |text| text.parse().expect("a seed"));
+    let calls = find(&library).unwrap_or_else(|| panic!("no library {library}"));
+    println!("calls: {count} calls, seed {seed}");
+    let start = Instant::now();
+    let mut seen = BTreeMap::new();
+    let (mut made, mut list) = (0, 0);
+    while made < count {
+        if let Err(fault) = one_list(&calls, &mut Random::new(seed, list), &mut made, &mut seen) {
+            report(&calls, seed, list, &fault);
+            exit(1);
+        }
+        list += 1;
+    }
+    println!("calls: {made} calls in {list} lists, all alike in {:.1} s", start.elapsed().as_secs_f64());
+    println!("calls: {}", seen.iter().map(|(what, times)| format!("{what} {times}")).collect::<Vec<_>>().join(", "));
+}
+
+fn clock_seed() -> u64 {
+    SystemTime::now().duration_since(UNIX_EPOCH).map_or(1, |since| since.as_secs())
+}
+
+fn find(library: &str) -> Option<Calls> {
+    match library {
+        "linked" => linked(),
+        "second" => Some(standin::CALLS),
+        path => open(path),
+    }
+}
+
+/// One list of calls from a fresh, a fit, an edge or an unfit state; each call starts where the last one ended.
+fn one_list(calls: &Calls, random: &mut Random, made: &mut u64, seen: &mut BTreeMap<String, u64>) -> Result<(), Fault> {
+    let (mut state, length) = match random.below(10) {
+        0..=3 => (State::set_up(state::table(random)).expect("a table within its limits"), 40),
+        4..=6 => (state::fit(random), 6),
+        7 => (state::edge(random), 4),
+        _ => (state::unfit(random), 3),
+    };
+    for _ in 0..length {
+        let call = if random.once_in(12) { table_call(random) } else { random_call(random) };
+        *made += 1;
+        *seen.entry(ending(&state, &call)).or_default() += 1;
+        state = match compare(calls, &state, &call) {
+            // A set-up within a list is compared and its state left aside.
+            Ok(_) if matches!(call, Call::SetUp(_)) => state,
+            Ok(next) => next,
+            Err(_) => return Err(Fault { state, call }),
+        };
+    }
+    Ok(())
+}
+
+/// The call's name and number: what the counts show was reached.
+fn ending(state: &State, call: &Call) -> String {
+    let mut state = *state;
+    let (name, number) = match *call {
+        Call::SetUp(table) => ("set-up", State::set_up(table).err().map(|refused| refused.number)),
+        Call::Admit(table) => ("admit", table.check().err().map(|refused| refused.number)),
+        Call::Request { id, work } => ("request", state.request(id, work).err()),
+        Call::Tick => ("tick", state.tick().err()),
+        Call::Run { k, lent } => ("run", state.run(k, &mut vec![second::Entry::default(); lent]).err()),
+    };
+    number.map_or(format!("{name} done"), |number| format!("{name} refused {number}"))
+}
+
+fn report(calls: &Calls, seed: u64, list: u64, fault: &Fault) {
+    let small = shrink(calls, &fault.state, &fault.call);
+    let difference = compare(calls, &small, &fault.call).err().unwrap_or_default();
+    let path = format!("{FOLDER}/call-{seed}-{list}.txt");
+    fs::create_dir_all(FOLDER).expect("target is writable");
+    let text = format!(
+        "{:?}\n{difference}\n\nmade small:\n{}\nmade small, every slot:\n{small:?}\n\nas met:\n{:?}\n",
+        fault.call,
+        describe(&small),
+        fault.state
+    );
+    fs::write(&path, text).expect("target is writable");
+    println!("calls: list {list} of seed {seed} differs; written to {path}");
+    println!("{:?}: {difference}", fault.call);
+}
+
+/// The parts of a state that are in use, a line each.
+fn describe(state: &State) -> String {
+    let (rows, waiting) = (state.table.n.min(16) as usize, state.waiting.min(64) as usize);
+    let mut text = format!(
+        "clock {}, {} rows, {} waiting\n{:?}\n{:?}\n",
+        state.clock, state.table.n, state.waiting, state.table.server, state.service
+    );
+    for i in 0..rows {
+        text += &format!("{:?}, left {}\n", state.table.rows[i], state.left[i]);
+    }
+    for request in &state.queue[..waiting] {
+        text += &format!("{request:?}\n");
+    }
+    text
+}

@@ -1,0 +1,242 @@
+//! One library call, made on both sides and compared.
+
+use second::{Entry, State, Table};
+
+use crate::abi::Calls;
+use crate::convert::*;
+use crate::random::Random;
+use crate::state;
+
+#[derive(Clone, Copy, Debug)]
+pub enum Call {
+    SetUp(Table),
+    Admit(Table),
+    Request {
+        id: u32,
+        work: u32,
+    },
+    Tick,
+    /// k ticks into a lent list of this many entries.
+    Run {
+        k: u32,
+        lent: usize,
+    },
+}
+
+/// What the lent entries hold before a run.
+const LENT: Entry = Entry { kind: 0xeeee_eeee, id: 0xeeee_eeed, drops: 0xeeee_eeec };
+
+pub fn random_call(random: &mut Random) -> Call {
+    match random.below(10) {
+        0..=3 => Call::Tick,
+        4..=6 => Call::Request { id: random.word(), work: work(random) },
+        _ => run(random),
+    }
+}
+
+fn work(random: &mut Random) -> u32 {
+    if random.once_in(4) {
+        random.pick(&[0, 1, 59_999, 60_000, 60_001, u32::MAX])
+    } else {
+        random.from(1, 5)
+    }
+}
+
+fn run(random: &mut Random) -> Call {
+    let lent = random.below(50);
+    let k = match random.below(8) {
+        0 => 0,
+        1 => lent as u32,
+        2 => lent as u32 + 1,
+        3 => u32::MAX,
+        _ => random.from(0, lent as u32),
+    };
+    Call::Run { k, lent }
+}
+
+pub fn table_call(random: &mut Random) -> Call {
+    let table = if random.once_in(2) { state::table(random) } else { state::bad_table(random) };
+    if random.once_in(2) {
+        Call::SetUp(table)
+    } else {
+        Call::Admit(table)
+    }
+}
+
+/// A difference in words, or the state after the call.
+pub fn compare(calls: &Calls, state: &State, call: &Call) -> Result<State, String> {
+    match *call {
+        Call::SetUp(table) => compare_set_up(calls, state, table),
+        Call::Admit(table) => compare_admit(calls, state, table),
+        Call::Request { id, work } => compare_request(calls, state, id, work),
+        Call::Tick => compare_tick(calls, state),
+        Call::Run { k, lent } => compare_run(calls, state, k, lent),
+    }
+}
+
+fn same<T: PartialEq + std::fmt::Debug>(what: &str, second: T, library: T) -> Result<(), String> {
+    if second == library {
+        return Ok(());
+    }
+    Err(format!("{what}: second {second:?}, library {library:?}"))
+}
+
+/// Document 01 gives a refused set-up no state and no index but refusal 2's: neither is compared.
+fn compare_set_up(calls: &Calls, before: &State, table: Table) -> Result<State, String> {
+    // SAFETY: structs by value, no pointer.
+    let library = unsafe { (calls.set_up)(to_table(&table)) };
+    match State::set_up(table) {
+        Ok(fresh) => {
+            same("number", 0, library.number)?;
+            same_state(&fresh, &from_state(&library.state))?;
+            Ok(fresh)
+        }
+        Err(refused) => {
+            same("number", refused.number, library.number)?;
+            same_index(refused, library.index)?;
+            Ok(*before)
+        }
+    }
+}
+
+fn same_index(refused: second::Refused, index: u32) -> Result<(), String> {
+    if refused.number == second::refusal::BAD_ROW {
+        same("index", refused.index, index)
+    } else {
+        Ok(())
+    }
+}
+
+/// Bounds of rows that the table does not have are 0.
+fn compare_admit(calls: &Calls, before: &State, table: Table) -> Result<State, String> {
+    // SAFETY: structs by value, no pointer.
+    let library = unsafe { (calls.admit)(to_table(&table)) };
+    match second::admit(&table) {
+        Ok(admission) => {
+            same("number", 0, library.number)?;
+            same("bounds", admission.bounds, library.bounds)?;
+            same("server bound", admission.server, library.serverbound)?;
+            same("admitted", admission.admitted as u32, library.admitted)?;
+        }
+        Err(refused) => {
+            same("number", refused.number, library.number)?;
+            same_index(refused, library.index)?;
+        }
+    }
+    Ok(*before)
+}
+
+fn compare_request(calls: &Calls, before: &State, id: u32, work: u32) -> Result<State, String> {
+    let mut next = *before;
+    let number = next.request(id, work).err().unwrap_or(0);
+    // SAFETY: structs by value, no pointer.
+    let library = unsafe { (calls.request)(to_state(before), id, work) };
+    same("number", number, library.number)?;
+    same_state(&next, &from_state(&library.state))?;
+    Ok(next)
+}
+
+fn compare_tick(calls: &Calls, before: &State) -> Result<State, String> {
+    let mut next = *before;
+    let ticked = next.tick();
+    // SAFETY: structs by value, no pointer.
+    let library = unsafe { (calls.tick)(to_state(before)) };
+    same("number", ticked.err().unwrap_or(0), library.number)?;
+    if let Ok(ticked) = ticked {
+        same("entry", ticked.entry, Entry { kind: library.kind, id: library.id, drops: library.drops })?;
+        same("finished", ticked.finish.is_some() as u32, library.finished)?;
+        if let Some(finish) = ticked.finish {
+            same("finish", (finish.id, finish.response), (library.finished_id, library.response))?;
+        }
+    }
+    same_state(&next, &from_state(&library.state))?;
+    Ok(next)
+}
+
+fn compare_run(calls: &Calls, before: &State, k: u32, lent: usize) -> Result<State, String> {
+    let mut next = *before;
+    let mut record = vec![LENT; lent];
+    let number = next.run(k, &mut record).err().unwrap_or(0);
+    let mut entries = vec![to_entry(LENT); lent];
+    // SAFETY: the list is lent for the call, with its own length.
+    let library = unsafe { (calls.run)(to_state(before), k, entries.as_mut_ptr(), entries.len()) };
+    same("number", number, library.number)?;
+    for (i, (second, library)) in record.into_iter().zip(entries).enumerate() {
+        same(&format!("entry {i}"), second, from_entry(library))?;
+    }
+    same_state(&next, &from_state(&library.state))?;
+    Ok(next)
+}
+
+/// Every slot, in use or not.
+fn same_state(second: &State, library: &State) -> Result<(), String> {
+    same("clock", second.clock, library.clock)?;
+    same("service", second.service, library.service)?;
+    same("left", second.left, library.left)?;
+    same("waiting", second.waiting, library.waiting)?;
+    for i in 0..second.queue.len() {
+        same(&format!("queue slot {i}"), second.queue[i], library.queue[i])?;
+    }
+    same("table", second.table, library.table)
+}
+
+/// How often the steps below are gone through.
+const ROUNDS: usize = 100;
+
+/// Makes a failing state small: each step that keeps a difference stays.
+pub fn shrink(calls: &Calls, state: &State, call: &Call) -> State {
+    let mut small = *state;
+    for _ in 0..ROUNDS {
+        let before = small;
+        for step in STEPS {
+            let mut tried = small;
+            step(&mut tried);
+            if compare(calls, &tried, call).is_err() {
+                small = tried;
+            }
+        }
+        if small == before {
+            break;
+        }
+    }
+    small
+}
+
+const STEPS: &[fn(&mut State)] = &[
+    |s| s.waiting /= 2,
+    |s| s.waiting = s.waiting.saturating_sub(1),
+    plain_requests,
+    clear_unused,
+    |s| s.left = [0; 16],
+    |s| s.left.iter_mut().for_each(|left| *left = (*left).min(1)),
+    |s| s.table.n /= 2,
+    |s| s.table.n = s.table.n.saturating_sub(1),
+    drop_first_row,
+    |s| s.clock /= 2,
+    |s| s.clock = s.clock.saturating_sub(1),
+    |s| (s.service.tr, s.service.begin) = (0, 0),
+    |s| s.service.nr = 0,
+    |s| (s.service.served, s.service.late) = (false, false),
+    |s| (s.service.above, s.service.busy) = (false, false),
+    |s| s.service.budget = s.service.budget.saturating_sub(1),
+];
+
+fn drop_first_row(state: &mut State) {
+    if state.table.n > 1 && state.table.n <= 16 {
+        state.table.rows.copy_within(1.., 0);
+        state.left.copy_within(1.., 0);
+        state.table.n -= 1;
+        state.table.server.place = state.table.server.place.saturating_sub(1);
+    }
+}
+
+fn plain_requests(state: &mut State) {
+    state.queue[..state.waiting.min(64) as usize].fill(second::Request { id: 1, work: 1, arrival: 0 });
+}
+
+fn clear_unused(state: &mut State) {
+    let (rows, waiting) = (state.table.n.min(16) as usize, state.waiting.min(64) as usize);
+    state.table.rows[rows..].fill(second::Row::default());
+    state.left[rows..].fill(0);
+    state.queue[waiting..].fill(second::Request::default());
+}

@@ -1,0 +1,85 @@
+#!/usr/bin/env python3
+"""Tests the differential tests: the second implementation with one rule changed must be told from the right one.
+
+usage, from the repository's root:  tests/differential/wrong.py [LABEL ..]
+
+Each wrong/LABEL.edit names a file of the second implementation, a text that stands in it once, what to put in its
+place (\\n is a line feed), and which comparison must notice: plans, calls or both.
+"""
+import os
+import re
+import subprocess
+import sys
+
+SOURCE = "tests/second/src"
+EDITS = "tests/differential/wrong"
+TOOLS = "target/tests/release"
+TARGET = "target/wrong"
+SEED = "7"
+
+
+def read_edit(label):
+    with open(f"{EDITS}/{label}.edit") as file:
+        fields = dict(line.rstrip("\n").split(": ", 1) if ": " in line else (line.rstrip(":\n"), "") for line in file)
+    fields["old"], fields["new"] = (re.sub(r"\\(n|\\)", lambda m: "\n" if m[1] == "n" else "\\", fields[k]) for k in ("old", "new"))
+    return fields
+
+
+def write_sources(edit, folder):
+    """Copies the sources with the edit made; the old text must stand there once."""
+    os.makedirs(folder, exist_ok=True)
+    for name in os.listdir(SOURCE):
+        with open(f"{SOURCE}/{name}") as file:
+            text = file.read()
+        if name == edit["file"]:
+            if text.count(edit["old"]) != 1:
+                sys.exit(f"{folder}: the old text stands {text.count(edit['old'])} times in {name}")
+            text = text.replace(edit["old"], edit["new"])
+        with open(f"{folder}/{name}", "w") as file:
+            file.write(text)
+
+
+def rustc(*arguments):
+    command = ["rustc", "--edition", "2021", "-C", "opt-level=1", "-C", "debuginfo=0", "--cap-lints", "allow", *arguments]
+    subprocess.run(command, check=True)
+
+
+def build(edit, folder):
+    write_sources(edit, folder)
+    second = f"second={folder}/libsecond.rlib"
+    rustc("--crate-type", "rlib", "--crate-name", "second", f"{folder}/lib.rs", "-o", f"{folder}/libsecond.rlib")
+    if edit["by"] != "calls":
+        rustc("--crate-name", "schedule", "--extern", second, f"{folder}/main.rs", "-o", f"{folder}/schedule")
+    if edit["by"] != "plans":
+        rustc("--crate-type", "cdylib", "--crate-name", "standin", "--extern", second, "tests/differential/standin.rs", "-o", f"{folder}/libstandin.so")
+
+
+def notices(command):
+    """What the comparison says of its first difference, or nothing."""
+    done = subprocess.run(command, stdout=subprocess.PIPE, stderr=subprocess.DEVNULL, text=True, timeout=120)
+    found = re.search(r"(plan|list) (\d+) of seed", done.stdout)
+    if found:
+        return f"{found[1]} {found[2]}"
+    return "crash" if done.returncode != 0 else ""
+
+
+def check(label):
+    edit, folder = read_edit(label), f"{TARGET}/{label}"
+    build(edit, folder)
+    noticed = []
+    if edit["by"] != "calls":
+        noticed.append(notices([f"{TOOLS}/plans", f"{folder}/schedule", "20000", SEED]))
+    if edit["by"] != "plans":
+        noticed.append(notices([f"{TOOLS}/calls", f"{folder}/libstandin.so", "200000", SEED]))
+    print(f"{label}: {', '.join(one or 'NOT NOTICED' for one in noticed)}", flush=True)
+    return all(noticed)
+
+
+def main():
+    labels = sys.argv[1:] or sorted(name[:-5] for name in os.listdir(EDITS) if name.endswith(".edit"))
+    missed = [label for label in labels if not check(label)]
+    print(f"{len(labels) - len(missed)} of {len(labels)} wrong rules noticed")
+    sys.exit(bool(missed))
+
+
+main()

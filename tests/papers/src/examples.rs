@@ -1,0 +1,119 @@
+//! The worked examples of documents 000, 001, 002 and 003 that the rules cover, each as a plan and as the lines that
+//! `schedule` prints if what the document says is so.
+
+use std::path::Path;
+
+use crate::{read, Report};
+
+pub struct Example {
+    pub plan: &'static str,
+    pub source: &'static str,
+    /// What the document says, and the lines that show it.
+    pub agrees: &'static [(&'static str, &'static [&'static str])],
+    /// What differs, or what the document's text leaves out, and why.
+    pub differs: &'static str,
+}
+
+pub const EXAMPLES: &[Example] = &[
+    Example {
+        plan: "000-polling",
+        source: "000, periodic server with RM: T1 = (3, 1), T2 = (10, 4), server (2.5, 0.5), 0.8 at 0.1; a tick is 0.1",
+        agrees: &[
+            ("it executes from 2.5 until its budget is exhausted at 3", &["X,24,T,1,0", "X,25,A,1,0", "X,29,A,1,0", "X,30,T,0,0"]),
+            ("it finishes from 5.0 to 5.3; the response is 5.2", &["X,50,A,1,0", "X,52,A,1,0", "F,52,1,52"]),
+        ],
+        differs: "",
+    },
+    Example {
+        plan: "000-deferrable",
+        source: "000, deferrable server with RM: the same tasks and job",
+        agrees: &[("the response is 2.7", &["X,1,A,1,0", "X,5,A,1,0", "F,27,1,27"])],
+        differs: "not admitted: T2's time demand with the extra budget passes 10; the document asks no admission of it, and nothing drops",
+    },
+    Example {
+        plan: "000-deferrable-phase",
+        source: "000, another example: T1 = (2, 3.5, 1.5), T2 = (6.5, 0.5), server (3, 1), 1.7 at 2.8; a tick is 0.1",
+        agrees: &[("the response is 3.7", &["F,64,1,37"])],
+        differs: "the document's 2.4 is for a deadline-driven server with background service on top, which document 01 leaves unbuilt",
+    },
+    Example {
+        plan: "000-critical-instant",
+        source: "000, modified example: the same, 3 units at 65",
+        agrees: &[("65 is a critical instant: T1 runs from 67 to 68.5, its deadline", &["V,1", "B,0,35", "X,669,A,1,0", "X,670,T,0,0", "X,684,T,0,0", "X,685,T,0,0"])],
+        differs: "",
+    },
+    Example {
+        plan: "000-larger-budget",
+        source: "000, modified example: a budget of 1.1 in place of 1",
+        agrees: &[("a larger budget would make T1 miss a deadline", &["V,0", "B,0,0", "X,685,T,0,1"])],
+        differs: "",
+    },
+    Example {
+        plan: "000-sporadic",
+        source: "000 and 003, simple sporadic server with RM: T1 = (3, 0.5), T2 = (4, 1), T3 = (19, 4.5), server (5, 1.5), \
+                 1 at 3, 2 at 7, 2 at 15.5; a tick is 0.5",
+        agrees: &[],
+        differs: "the schedule is in figures that the texts do not hold: there is nothing to compare; the rules give responses 2.5, 7 and 3.5",
+    },
+    Example {
+        plan: "001-deferrable-miss",
+        source: "001, deferrable server (2, 4), task (2, 5), requests of 2 at 0, 2, 10, 12, 16",
+        agrees: &[("the task misses its deadline at 15", &["X,14,T,0,0", "X,15,T,0,1"])],
+        differs: "admission agrees with the point made: bound 0, not admitted",
+    },
+    Example {
+        plan: "002-polling",
+        source: "002 (tasks also in 001), polling server: T1 = (1, 4), T2 = (2, 6), server (2, 5), requests 2 at 2, 1 at 8, 2 at 12",
+        agrees: &[
+            ("at 0 T1; at 1 no request is pending and the capacity goes to periodic tasks", &["X,0,T,0,0", "X,1,T,1,0", "X,2,T,1,0", "X,3,I,0,0"]),
+            ("the request of 2 waits until 5 and is then served until completion", &["X,5,A,1,0", "X,6,A,1,0", "F,6,1,5"]),
+            ("the second uses half of the capacity", &["X,10,A,2,0", "F,10,2,3", "X,11,I,0,0"]),
+            ("at 16 the third is preempted by T1, and the capacity is preserved", &["X,15,A,3,0", "X,16,T,0,0", "X,17,A,3,0", "F,17,3,6"]),
+        ],
+        differs: "002 prints the order T1 > T2 > TS, and tells the story of T1 > TS > T2 (periods 4, 5, 6), which is what RM gives and what this plan has; \
+                  not admitted: T2's time demand is 8 in its 6 ticks, yet nothing drops; the responses 5, 3, 6 keep within 001's total delay (1 + Ca/Cs) Ts = 10",
+    },
+    Example {
+        plan: "002-polling-below",
+        source: "002, the same with the order as printed, T1 > T2 > TS",
+        agrees: &[],
+        differs: "the first request is then served at 3, since rows above are open until there: not what 002 tells",
+    },
+    Example {
+        plan: "002-deferrable",
+        source: "002, deferrable server: the same tasks and requests, T1 > TS > T2",
+        agrees: &[
+            ("at 1 the processor goes to T2", &["X,1,T,1,0"]),
+            ("the first request is served at once, and the capacity is exhausted at 4", &["X,2,A,1,0", "X,3,A,1,0", "F,3,1,2", "X,4,T,0,0"]),
+            ("the second is not served at 8, because T1 is active", &["X,8,T,0,0", "X,9,A,2,0", "F,9,2,2"]),
+        ],
+        differs: "002 tells nothing of the third request; the rules give it a response of 3; not admitted, as before, and nothing drops",
+    },
+    Example {
+        plan: "002-sporadic",
+        source: "002, sporadic server: T1 = (3, 10), T2 = (4, 15), server (2, 8) on top, requests of 2 at 2 and 7",
+        agrees: &[
+            ("at 0 T1; at 2 the first request preempts it and consumes the whole capacity", &["X,0,T,0,0", "X,2,A,1,0", "X,3,A,1,0", "F,3,1,2", "X,4,T,0,0"]),
+            ("the capacity comes back at 10 and serves the second", &["X,9,I,0,0", "X,10,A,2,0", "X,11,A,2,0", "F,11,2,5"]),
+        ],
+        differs: "002 gives back what was consumed, tA + P after; 004's simple server gives back the whole budget, and lets it lapse while idle; \
+                  here each request takes the whole budget at once, so the two agree",
+    },
+];
+
+pub fn check(dir: &Path, example: &Example, report: &mut Report) {
+    let plan = read(dir, &format!("{}.plan", example.plan));
+    let out = String::from_utf8(second::print::schedule(plan.as_bytes())).expect("the output is ASCII");
+    report.say(format!("document {}", example.source));
+    for (says, lines) in example.agrees {
+        let missing: Vec<_> = lines.iter().filter(|line| !out.lines().any(|l| l == **line)).collect();
+        if missing.is_empty() {
+            report.say(format!("  agrees: {says}"));
+        } else {
+            report.fault(format!("{}: {says}: no line {missing:?}", example.plan));
+        }
+    }
+    if !example.differs.is_empty() {
+        report.say(format!("  note: {}", example.differs));
+    }
+}

@@ -1,0 +1,68 @@
+//! The papers' own tables and worked examples, held against the second implementation.
+//!
+//! `tables` replays document 004's fixed-priority tables line by line; `examples` holds what documents 000, 001 and
+//! 002 say of their examples. Each scenario is also a plan (`*.plan`) with its output (`*.out`) for any program that
+//! claims to be `schedule`.
+
+pub mod departures;
+pub mod examples;
+pub mod tables;
+pub mod text;
+
+use std::fs;
+use std::path::Path;
+
+/// What was checked, in words, and what failed.
+#[derive(Default)]
+pub struct Report {
+    pub lines: Vec<String>,
+    pub faults: Vec<String>,
+}
+
+impl Report {
+    pub fn say(&mut self, line: String) {
+        self.lines.push(line);
+    }
+
+    pub fn fault(&mut self, line: String) {
+        self.faults.push(line);
+    }
+}
+
+pub fn read(dir: &Path, name: &str) -> String {
+    let path = dir.join(name);
+    fs::read_to_string(&path).unwrap_or_else(|error| panic!("{}: {error}", path.display()))
+}
+
+/// Every plan of the folder, in order of name.
+pub fn plans(dir: &Path) -> Vec<String> {
+    let entries = fs::read_dir(dir).expect("the folder of the papers");
+    let names = entries.map(|entry| entry.unwrap().file_name().into_string().unwrap());
+    let mut plans: Vec<String> = names.filter_map(|name| name.strip_suffix(".plan").map(str::to_string)).collect();
+    plans.sort();
+    plans
+}
+
+/// The tables, the examples, and the kept outputs.
+pub fn check(dir: &Path) -> Report {
+    let mut report = Report::default();
+    for table in tables::TABLES {
+        tables::check(dir, table, &mut report);
+    }
+    for example in examples::EXAMPLES {
+        examples::check(dir, example, &mut report);
+    }
+    check_outputs(dir, &mut report, "second", |plan| second::print::schedule(plan.as_bytes()));
+    report
+}
+
+/// The kept outputs against what a program prints.
+pub fn check_outputs(dir: &Path, report: &mut Report, program: &str, run: impl Fn(&str) -> Vec<u8>) {
+    let names = plans(dir);
+    for name in &names {
+        if run(&read(dir, &format!("{name}.plan"))) != read(dir, &format!("{name}.out")).as_bytes() {
+            report.fault(format!("{name}: {program} prints other than {name}.out"));
+        }
+    }
+    report.say(format!("{} plans' outputs compared with {program}, byte for byte", names.len()));
+}

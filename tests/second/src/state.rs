@@ -1,0 +1,108 @@
+//! The state, its fresh value, its fitness, and requests.
+
+use crate::refusal::*;
+use crate::table::*;
+use crate::Refused;
+
+pub const QUEUE: usize = 64;
+pub const WORK_MOST: u32 = 60_000;
+pub const CLOCK_LAST: u32 = 4_000_000_000;
+/// The latest next replenishment: the last clock and the longest period.
+pub const NEXT_LAST: u32 = CLOCK_LAST + FIELD_MOST;
+
+#[derive(Clone, Copy, Debug, Default, PartialEq, Eq)]
+pub struct Request {
+    pub id: u32,
+    pub work: u32,
+    pub arrival: u32,
+}
+
+/// The server's state. All but the budget belongs to the sporadic kind and stays unchanged under the others.
+#[derive(Clone, Copy, Debug, Default, PartialEq, Eq)]
+pub struct Service {
+    pub budget: u32,
+    pub tr: u32,
+    pub begin: u32,
+    pub nr: u32,
+    pub served: bool,
+    pub late: bool,
+    /// A row above was open in the last tick.
+    pub above: bool,
+    /// Any row was open in the last tick.
+    pub busy: bool,
+}
+
+/// Slots not in use keep what they held.
+#[derive(Clone, Copy, Debug, PartialEq, Eq)]
+pub struct State {
+    pub table: Table,
+    pub left: [u32; ROWS],
+    pub service: Service,
+    pub clock: u32,
+    pub queue: [Request; QUEUE],
+    pub waiting: u32,
+}
+
+impl State {
+    /// Set-up: the fresh state of a table that keeps its limits.
+    pub fn set_up(table: Table) -> Result<State, Refused> {
+        table.check()?;
+        // Kind 0 has B = 0, so "b = B, of kind 0 it has b = 0" is one assignment.
+        let service = Service { budget: table.server.budget, ..Service::default() };
+        Ok(State { table, left: [0; ROWS], service, clock: 0, queue: [Request::default(); QUEUE], waiting: 0 })
+    }
+
+    /// The requests that wait; only for a state with at most 64.
+    pub fn waiting(&self) -> &[Request] {
+        &self.queue[..self.waiting as usize]
+    }
+
+    /// Whether no ground of refusal 11 holds.
+    pub fn is_fit(&self) -> bool {
+        self.table.check().is_ok() && self.rows_fit() && self.queue_fits() && self.times_fit()
+    }
+
+    fn rows_fit(&self) -> bool {
+        self.table.used().iter().zip(&self.left).all(|(row, &left)| left <= row.exec)
+    }
+
+    fn queue_fits(&self) -> bool {
+        self.waiting as usize <= QUEUE && self.waiting().iter().all(|request| good_work(request.work) && request.arrival <= self.clock)
+    }
+
+    fn times_fit(&self) -> bool {
+        self.service.budget <= self.table.server.budget
+            && self.clock <= CLOCK_LAST
+            && self.service.tr <= self.clock
+            && self.service.begin <= self.clock
+            && self.service.nr <= NEXT_LAST
+    }
+
+    /// Presents a request at the current tick; 11, 4, 5.
+    pub fn request(&mut self, id: u32, work: u32) -> Result<(), u32> {
+        if !self.is_fit() {
+            return Err(UNFIT_STATE);
+        }
+        if !good_work(work) {
+            return Err(BAD_WORK);
+        }
+        if self.waiting as usize == QUEUE {
+            return Err(QUEUE_FULL);
+        }
+        self.queue[self.waiting as usize] = Request { id, work, arrival: self.clock };
+        self.waiting += 1;
+        Ok(())
+    }
+
+    /// The head leaves, the others move up; the last slot keeps what it held.
+    pub(crate) fn head_leaves(&mut self) -> Request {
+        let head = self.queue[0];
+        self.queue.copy_within(1..self.waiting as usize, 0);
+        self.waiting -= 1;
+        head
+    }
+}
+
+pub fn good_work(work: u32) -> bool {
+    (1..=WORK_MOST).contains(&work)
+}

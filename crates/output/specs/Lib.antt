@@ -1,3 +1,4 @@
 pub mod Output
 pub mod Pieces
+pub mod Whole
 pub mod Cases

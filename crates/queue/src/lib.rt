@@ -6,6 +6,7 @@ ghost use Rattle.queue.specs.Queue.{freshQueue, waitingOf, queueWith, re
 ghost use Rattle.queue.specs.Steps.{pushedQueue, servedQueue, queueFits};
 
 // Work that comes when it likes: an id, the ticks of work left, and the tick at which it was presented.
+#[repr(C)]
 pub struct Request {
     pub id: u32,
     pub work: u32,
@@ -22,6 +23,7 @@ impl Request {
 }
 
 // The first n slots hold the requests that wait, the head first.
+#[repr(C)]
 pub struct Queue {
     pub requests: [Request; Queue::CAPACITY as usize],
     pub n: u32,

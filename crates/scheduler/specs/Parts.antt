@@ -1,5 +1,6 @@
 -- What the parts of the code give, said of the tick that they belong to.
 use Prim.Native.Nat.{ℕ, zero, suc, _+_}
+use mathlib.Core.Path.{_≡_}
 use mathlib.Core.Bool.{Bool, true, false, cond, not, _&&_}
 use mathlib.Core.List.{List, [], _∷_}
 use lib.ListN.{take, set}
@@ -92,6 +93,10 @@ decidedBy s = record {
   turn = turnAt (taskSetOf (s .table)) (modelOf s);
   drops = ticked s .drops;
 }
+
+-- the decision d is the tick's, whatever the queue is whose head was read
+abbrev pub Decides : Table → Progress → Head → Decision → Type 0
+Decides t p h d = (q : Queue) → h ≡ headOf (waitingOf q) → mayRun 1 (joined t p q) ≡ true → d ≡ decidedBy (joined t p q)
 
 abbrev pub entryFor : Turn → ℕ → ℕ → Entry
 entryFor Turn.Nobody id drops = record { kind = 0; id = 0; drops = drops }

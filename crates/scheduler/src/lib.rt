@@ -10,7 +10,7 @@ ghost use Rattle.table.specs.Facts.{TableFacts, TaskLimits, noTask};
 ghost use Rattle.rules.specs.Tick.{choose, firstOpen, idleTurn, workedTasks};
 ghost use Rattle.rules.specs.Calls.{requestCall, ticked, ranBy, tickCall, runCall, runList};
 ghost use Rattle.rules.specs.Laws.{Sized};
-ghost use Rattle.scheduler.specs.Parts.{joined, mayRun, steppedBy, openedBy, startedBy, headOf, toRequest, seenOf, decidedBy, entryFor, occupantFor, recordedBy, allowance};
+ghost use Rattle.scheduler.specs.Parts.{joined, mayRun, steppedBy, openedBy, startedBy, headOf, toRequest, seenOf, Decides, entryFor, occupantFor, recordedBy, allowance};
 use queue::Finish;
 use queue::Queue;
 use rules::Entry;
@@ -321,14 +321,14 @@ struct Decision {
     drops: u32,
 }
 
-fn decide(table: Table, progress: Progress, queue: Queue) -> Decision
-    requires { ⌜ mayRun 1 (joined table progress queue) ≡ true ⌝ }
-    ensures { λ r. ⌜ r ≡ decidedBy (joined table progress queue) ⌝ }
+// It sees the queue's head alone, so that a run does not copy the queue in every tick.
+fn decide(table: Table, progress: Progress, head: Head) -> Decision
+    requires { ⌜ TableFacts table × (progress .clock < 4000000000) ⌝ }
+    ensures { λ r. ⌜ Decides table progress head r ⌝ }
 {
     let server = table.server;
     let t = progress.clock;
     let s = start(table, progress);
-    let head = head_of(queue);
     let full = s.server;
     let above = s.first < server.place;
     let busy = s.first < table.n;
@@ -379,8 +379,8 @@ fn record_tick(table: Table, progress: Progress, queue: Queue) -> Recorded
     requires { ⌜ mayRun 1 (joined table progress queue) ≡ true ⌝ }
     ensures { λ r. ⌜ r ≡ recordedBy (joined table progress queue) ⌝ }
 {
-    let d = decide(table, progress, queue);
     let head = head_of(queue);
+    let d = decide(table, progress, head);
     let turn = d.turn;
     let next = d.progress;
     Recorded {
@@ -434,10 +434,10 @@ fn run_tick(state: State) -> Ticked
     let table = state.table;
     let progress = state.progress;
     let queue = state.queue;
-    let d = decide(table, progress, queue);
+    let head = head_of(queue);
+    let d = decide(table, progress, head);
     let turn = d.turn;
     let next = d.progress;
-    let head = head_of(queue);
     let occupant = occupant_of(turn, head.id);
     if to_request(turn) {
         let finish = finish_of(progress.clock, queue);

@@ -11,6 +11,7 @@ mod simple_sporadic;
 
 // The server of a table. kind: 0 background, 1 polling, 2 deferrable, 3 simple sporadic. place (document 01's s): how many
 // tasks stand above it. period is document 01's P, budget its B.
+#[repr(C)]
 pub struct Server {
     pub kind: u32,
     pub place: u32,
@@ -19,6 +20,7 @@ pub struct Server {
 }
 
 // What only a simple sporadic server keeps.
+#[repr(C)]
 pub struct Sporadic {
     // The last replenishment.
     pub tr: u32,
@@ -36,6 +38,7 @@ pub struct Sporadic {
 }
 
 // What a tick changes of a server. budget is document 01's b: what is left to serve now.
+#[repr(C)]
 pub struct ServerState {
     pub budget: u32,
     pub sporadic: Sporadic,

@@ -13,6 +13,7 @@ use server::Server;
 use server::ServerState;
 
 // A periodic task (document 01's row): phase f, period p, execution e, deadline D, in ticks.
+#[repr(C)]
 pub struct Task {
     pub phase: u32,
     pub period: u32,
@@ -31,6 +32,7 @@ impl Task {
 }
 
 // The first n tasks are in use, highest priority first.
+#[repr(C)]
 pub struct Table {
     pub tasks: [Task; Table::MAX_TASKS as usize],
     pub n: u32,
@@ -38,6 +40,7 @@ pub struct Table {
 }
 
 // What every tick changes: the execution left of each task's job, the server's state and the clock.
+#[repr(C)]
 pub struct Progress {
     pub left: [u32; Table::MAX_TASKS as usize],
     pub server: ServerState,
@@ -45,6 +48,7 @@ pub struct Progress {
 }
 
 // The state is split by what changes: the table never, the progress in every tick, the queue when a request comes or is served.
+#[repr(C)]
 pub struct State {
     pub table: Table,
     pub progress: Progress,

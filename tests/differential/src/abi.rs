@@ -118,7 +118,7 @@ pub struct TickResult {
     pub id: u32,
     pub drops: u32,
     pub finished: u32,
-    pub finished_id: u32,
+    pub request: u32,
     pub response: u32,
     pub state: State,
 }

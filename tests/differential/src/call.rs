@@ -146,7 +146,7 @@ fn compare_tick(calls: &Calls, before: &State) -> Result<State, String> {
         same("entry", ticked.entry, Entry { kind: library.kind, id: library.id, drops: library.drops })?;
         same("finished", ticked.finish.is_some() as u32, library.finished)?;
         if let Some(finish) = ticked.finish {
-            same("finish", (finish.id, finish.response), (library.finished_id, library.response))?;
+            same("finish", (finish.id, finish.response), (library.request, library.response))?;
         }
     }
     same_state(&next, &from_state(&library.state))?;

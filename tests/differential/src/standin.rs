@@ -37,7 +37,7 @@ pub unsafe extern "C" fn tick(state: State) -> TickResult {
         id: entry.id,
         drops: entry.drops,
         finished: finish.is_some() as u32,
-        finished_id: finish.map_or(0, |finish| finish.id),
+        request: finish.map_or(0, |finish| finish.id),
         response: finish.map_or(0, |finish| finish.response),
         state: to_state(&next),
     }

@@ -199,9 +199,10 @@ impl State {
         }
     }
 
+    /// At its last tick of work the head leaves as it stands: the slot that nobody moves into keeps what it held.
     fn work_on_head(&mut self) -> Option<Finish> {
-        self.queue[0].work -= 1;
-        if self.queue[0].work > 0 {
+        if self.queue[0].work > 1 {
+            self.queue[0].work -= 1;
             return None;
         }
         let head = self.head_leaves();

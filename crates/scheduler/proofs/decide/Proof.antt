@@ -3,15 +3,12 @@ use borrow.Author.Needs.{needs}
 use native.Mathlib.Omega.{arith}
 use mathlib.Core.Path.{_≡_}
 use lib.ListN.{length, length-map}
-use Rattle.scheduler.proofs.Together.{may-table, may-facts, may-clock, decide-is}
+use Rattle.scheduler.proofs.Together.{decide-is}
 use Rattle.scheduler.proofs.decide.Statement.{statement}
 use Rattle.scheduler.proofs.decide.Tie as tie
 
 start-requires : tie.Need-start-requires
-start-requires c κs = may-table _ (c .before .pre)
-
-head-of-requires : tie.Need-head-of-requires
-head-of-requires c κs = may-facts _ (c .before .before .pre) .waiting
+start-requires c κs = c .before .pre .0
 
 choose-turn-requires : tie.Need-choose-turn-requires
 choose-turn-requires c κs = search needs
@@ -24,7 +21,7 @@ show-requires c κs = search needs
 
 add-clock : tie.Need-add-clock
 add-clock c =
-    let h = may-clock _ (c .before .before .before .before .before .before .before .before .before .before .before .before .pre) in
+    let h = c .before .before .before .before .before .before .before .before .before .before .before .pre .1 in
     record { fits = omega arith }
 
 consume-requires : tie.Need-consume-requires
@@ -33,20 +30,19 @@ consume-requires c κs = search needs
 returns : tie.Need-returns
 returns c =
     let chose = c .before .before .before .before in
-    let head = chose .before .before .before .before .before .before in
-    let a = head .before .before .before in
+    let began = chose .before .before .before .before .before .before in
+    let a = began .before .before in
     let l : length (a .args .table .tasks) ≡ 16 = simp length-map at (a .good .0 .1 .1 .0 .1 .0 .1) in
     let m : length (a .args .progress .left) ≡ 16 = simp length-map at (a .good .1 .0 .1 .1 .0 .1 .0 .1) in
-    decide-is (a .args .table) (a .args .progress) (a .args .queue) (a .pre) l m
-    (head .before .start .result) (head .head-of .result) (chose .choose-turn .result) (c .before .before .work-tasks .result) (c .before .show .result) (c .consume .result)
-    (head .before .start .ensures) (head .head-of .ensures) (chose .choose-turn .ensures) (c .before .before .work-tasks .ensures) (c .before .show .ensures) (c .consume .ensures)
+    λ q eh may. decide-is (a .args .table) (a .args .progress) q may l m
+    (began .start .result) (a .args .head) (chose .choose-turn .result) (c .before .before .work-tasks .result) (c .before .show .result) (c .consume .result)
+    (began .start .ensures) eh (chose .choose-turn .ensures) (c .before .before .work-tasks .ensures) (c .before .show .ensures) (c .consume .ensures)
 
 pub decide-spec : {M : Type 1} → statement M
 decide-spec =
     tie.close
     (tie.spec
     start-requires
-    head-of-requires
     choose-turn-requires
     work-tasks-requires
     show-requires

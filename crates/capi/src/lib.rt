@@ -1,0 +1,274 @@
+// The calls as C and Rust callers link them: structs by value, numbers for enums, the lent list as pointer and length. Each function hands
+// its arguments to the library's own call and turns the answer into document 01's numbers. include/pilqandur.h is the other side.
+ghost use mathlib.Core.Path.{_≡_};
+ghost use lib.ListN.{length};
+ghost use Rattle.table.specs.Refusal.{number, value, numberOf, valueOf};
+ghost use Rattle.table.specs.State.{setUpCall};
+ghost use Rattle.admission.specs.Admission.{admissionCall};
+ghost use Rattle.rules.specs.Calls.{entryBy, requestCall, tickCall, runCall, runList};
+ghost use Rattle.capi.specs.Results.{setUpResult, admissionResult, movedResult, doneBy, bitOf, ranResult, tickResultBy, tickResult};
+use admission::Admission;
+use queue::Finish;
+use rules::Entry;
+use rules::Moved;
+use rules::Occupant;
+use rules::TickAnswer;
+use rules::Ticked;
+use table::Checked;
+use table::Refusal;
+use table::SetUp;
+use table::State;
+use table::Table;
+
+// ---- what a call answers: number is 0 or document 01's number of the refusal; index belongs to refusal 2
+
+#[repr(C)]
+pub struct SetUpResult {
+    pub number: u32,
+    pub index: u32,
+    pub state: State,
+}
+
+// admitted is 1 or 0.
+#[repr(C)]
+pub struct AdmissionResult {
+    pub number: u32,
+    pub index: u32,
+    pub bounds: [u32; Table::MAX_TASKS as usize],
+    pub serverbound: u32,
+    pub admitted: u32,
+}
+
+// Of a request and of a run.
+#[repr(C)]
+pub struct MovedResult {
+    pub number: u32,
+    pub state: State,
+}
+
+// kind, id and drops are the tick's record. finished is 1 where the tick finished a request: then request is its id and response
+// its response; they are 0 otherwise. Of a refused tick all but number and state is 0.
+#[repr(C)]
+pub struct TickResult {
+    pub number: u32,
+    pub kind: u32,
+    pub id: u32,
+    pub drops: u32,
+    pub finished: u32,
+    pub request: u32,
+    pub response: u32,
+    pub state: State,
+}
+
+// The last three numbers of a tick.
+struct Done {
+    finished: u32,
+    request: u32,
+    response: u32,
+}
+
+// ---- enums as numbers
+
+fn number_of_refusal(refusal: Refusal) -> u32
+    ensures { λ r. ⌜ r ≡ number refusal ⌝ }
+{
+    match refusal {
+        Refusal::TaskCount => 1,
+        Refusal::BadTask(_) => 2,
+        Refusal::BadServer => 3,
+        Refusal::BadWork => 4,
+        Refusal::QueueFull => 5,
+        Refusal::ClockSpent => 6,
+        Refusal::ShortRecord => 10,
+        Refusal::UnfitState => 11,
+    }
+}
+
+fn value_of_refusal(refusal: Refusal) -> u32
+    ensures { λ r. ⌜ r ≡ value refusal ⌝ }
+{
+    match refusal {
+        Refusal::TaskCount => 0,
+        Refusal::BadTask(i) => i,
+        Refusal::BadServer => 0,
+        Refusal::BadWork => 0,
+        Refusal::QueueFull => 0,
+        Refusal::ClockSpent => 0,
+        Refusal::ShortRecord => 0,
+        Refusal::UnfitState => 0,
+    }
+}
+
+fn number_of(answer: Checked) -> u32
+    ensures { λ r. ⌜ r ≡ numberOf answer ⌝ }
+{
+    match answer {
+        Checked::Passed => 0,
+        Checked::Refused(refusal) => number_of_refusal(refusal),
+    }
+}
+
+fn value_of(answer: Checked) -> u32
+    ensures { λ r. ⌜ r ≡ valueOf answer ⌝ }
+{
+    match answer {
+        Checked::Passed => 0,
+        Checked::Refused(refusal) => value_of_refusal(refusal),
+    }
+}
+
+fn bit_of(yes: bool) -> u32
+    ensures { λ r. ⌜ r ≡ bitOf yes ⌝ }
+{
+    if yes {
+        return 1;
+    }
+    0
+}
+
+fn entry_by(occupant: Occupant, drops: u32) -> Entry
+    ensures { λ r. ⌜ r ≡ entryBy occupant drops ⌝ }
+{
+    match occupant {
+        Occupant::Idle => Entry {
+            kind: 0,
+            id: 0,
+            drops,
+        },
+        Occupant::Task(i) => Entry {
+            kind: 1,
+            id: i,
+            drops,
+        },
+        Occupant::Request(id) => Entry { kind: 2, id, drops },
+    }
+}
+
+fn done_by(finish: Finish) -> Done
+    ensures { λ r. ⌜ r ≡ doneBy finish ⌝ }
+{
+    match finish {
+        Finish::Nothing => Done {
+            finished: 0,
+            request: 0,
+            response: 0,
+        },
+        Finish::Finished { id, response } => Done {
+            finished: 1,
+            request: id,
+            response,
+        },
+    }
+}
+
+// ---- answers as numbers
+
+fn moved_result(moved: Moved) -> MovedResult
+    ensures { λ r. ⌜ r ≡ movedResult moved ⌝ }
+{
+    let answer = moved.answer;
+    let state = moved.state;
+    MovedResult {
+        number: number_of(answer),
+        state,
+    }
+}
+
+fn ran_result(ran: Entry, done: Done, state: State) -> TickResult
+    ensures { λ r. ⌜ r ≡ ranResult ran done state ⌝ }
+{
+    TickResult {
+        number: 0,
+        kind: ran.kind,
+        id: ran.id,
+        drops: ran.drops,
+        finished: done.finished,
+        request: done.request,
+        response: done.response,
+        state,
+    }
+}
+
+fn tick_result_by(answer: TickAnswer, state: State) -> TickResult
+    ensures { λ r. ⌜ r ≡ tickResultBy answer state ⌝ }
+{
+    match answer {
+        TickAnswer::Ran {
+            occupant,
+            drops,
+            finish,
+        } => ran_result(entry_by(occupant, drops), done_by(finish), state),
+        TickAnswer::Refused(refusal) => TickResult {
+            number: number_of_refusal(refusal),
+            kind: 0,
+            id: 0,
+            drops: 0,
+            finished: 0,
+            request: 0,
+            response: 0,
+            state,
+        },
+    }
+}
+
+// ---- the calls
+
+// Set-up: the fresh state of a table, or refusal 1, 2 or 3.
+#[no_mangle]
+pub extern "C" fn pilqandur_set_up(table: Table) -> SetUpResult
+    ensures { λ r. ⌜ r ≡ setUpResult (setUpCall table) ⌝ }
+{
+    let up = table.set_up();
+    let answer = up.answer;
+    let state = up.state;
+    SetUpResult {
+        number: number_of(answer),
+        index: value_of(answer),
+        state,
+    }
+}
+
+// Admission: the bounds of a table, or refusal 1, 2 or 3.
+#[no_mangle]
+pub extern "C" fn pilqandur_admit(table: Table) -> AdmissionResult
+    ensures { λ r. ⌜ r ≡ admissionResult (admissionCall table) ⌝ }
+{
+    let a = admission::admit(table);
+    let answer = a.answer;
+    let bounds = a.bounds;
+    AdmissionResult {
+        number: number_of(answer),
+        index: value_of(answer),
+        bounds,
+        serverbound: a.serverbound,
+        admitted: bit_of(a.admitted),
+    }
+}
+
+// A request presented at the state's clock, or refusal 11, 4 or 5.
+#[no_mangle]
+pub extern "C" fn pilqandur_request(state: State, id: u32, work: u32) -> MovedResult
+    ensures { λ r. ⌜ r ≡ movedResult (requestCall state id work) ⌝ }
+{
+    moved_result(scheduler::request(state, id, work))
+}
+
+// One tick, or refusal 11 or 6.
+#[no_mangle]
+pub extern "C" fn pilqandur_tick(state: State) -> TickResult
+    ensures { λ r. ⌜ r ≡ tickResult (tickCall state) ⌝ }
+{
+    let ticked = scheduler::tick(state);
+    let answer = ticked.answer;
+    let next = ticked.state;
+    tick_result_by(answer, next)
+}
+
+// k ticks, the record of each in the lent list, or refusal 11, 6 or 10. The list is lent on.
+#[no_mangle]
+pub extern "C" fn pilqandur_run(state: State, k: u32, entries: &mut [Entry]) -> MovedResult
+    ensures { λ r. ⌜ (r ≡ movedResult (runCall state k (length (now (entries .entry))))) × (now (entries .exit) ≡ runList state k (now (entries .entry))) ⌝ }
+{
+    let moved = scheduler::run(state, k, entries);
+    moved_result(moved)
+}

@@ -1,0 +1,83 @@
+// Plans and what they print: standard input holds cases, each a name, a colon, a plan's bytes and a semicolon, and a line feed after it.
+// Prints each name on a line of its own, then what `schedule` prints of the plan.
+ghost use Prim.Native.Nat.{ℕ, _≤_};
+ghost use lib.ListN.{length};
+use plan::Answer;
+
+// The place of the first `byte` from `from` on, or the length.
+fn find(s: &[u8], from: usize, byte: u8) -> usize
+    requires { ⌜ from ≤ length (now s) ⌝ }
+    ensures { λ r. ⌜ (from ≤ r) × (r ≤ length (now (s .entry))) ⌝ }
+{
+    let mut i = from;
+    while i < s.len() {
+        if s[i] == byte {
+            return i;
+        }
+        i += 1;
+    }
+    i
+}
+
+// Writes the bytes of s from `from` up to `to`.
+fn write_part(s: &[u8], from: usize, to: usize)
+    requires { ⌜ (from ≤ to) × (to ≤ length (now s)) ⌝ }
+{
+    io::write_all(1, &s[from..to]);
+}
+
+// Prints what fits into the buffer of what is printed of a plan: of these plans, all.
+fn print(text: &[u8], out: &mut [u8])
+    requires { ⌜ 828 ≤ length (now out) ⌝ }
+{
+    let r = plan::check(text);
+    let answer = r.answer;
+    match answer {
+        Answer::Refused(k) => {
+            let end = output::refused(out, k, r.line);
+            write_part(out, 0, end);
+        }
+        Answer::Accepted => {
+            let table = r.table;
+            let h = output::head(out, table);
+            write_part(out, 0, h);
+            let p = output::first(text, table);
+            let f = output::fill(text, r.ticks, out, p);
+            write_part(out, 0, f.at);
+        }
+    }
+}
+
+fn print_cases(all: &[u8], out: &mut [u8])
+    requires { ⌜ 828 ≤ length (now out) ⌝ }
+{
+    let n = all.len();
+    let mut at: usize = 0;
+    while at < n {
+        let colon = find(all, at, b':');
+        if n <= colon {
+            return;
+        }
+        let start = colon + 1;
+        let end = find(all, start, b';');
+        write_part(all, at, colon);
+        io::write_all(1, b"\n");
+        print(&all[start..end], out);
+        if n - end < 2 {
+            return;
+        }
+        at = end + 2;
+    }
+}
+
+fn main() {
+    let mut all = [0u8; 65536];
+    let mut out = [0u8; 65536];
+    let n = io::read_full(0, &mut all);
+    print_cases(&all[..n], &mut out);
+    let long = [10u8; 65537];
+    io::write_all(1, b"65537 bytes\n");
+    print(&long, &mut out);
+    io::write_all(1, b"65536 bytes\n");
+    print(&long[..65536], &mut out);
+}

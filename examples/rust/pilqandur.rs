@@ -1,0 +1,157 @@
+//! The library for Rust callers: include/pilqandur.h's structs, and its calls as safe functions.
+//! Rust's own types keep what the header asks: a bool is 0 or 1, a lent list is the caller's alone and has its true length.
+
+#[repr(C)]
+#[derive(Clone, Copy, Debug, Default, PartialEq, Eq)]
+pub struct Task {
+    pub phase: u32,
+    pub period: u32,
+    pub exec: u32,
+    pub deadline: u32,
+}
+
+#[repr(C)]
+#[derive(Clone, Copy, Debug, Default, PartialEq, Eq)]
+pub struct Server {
+    pub kind: u32,
+    pub place: u32,
+    pub period: u32,
+    pub budget: u32,
+}
+
+#[repr(C)]
+#[derive(Clone, Copy, Debug, Default, PartialEq, Eq)]
+pub struct Table {
+    pub tasks: [Task; 16],
+    pub n: u32,
+    pub server: Server,
+}
+
+#[repr(C)]
+#[derive(Clone, Copy, Debug, Default, PartialEq, Eq)]
+pub struct Sporadic {
+    pub tr: u32,
+    pub begin: u32,
+    pub nr: u32,
+    pub served: bool,
+    pub late: bool,
+    pub above: bool,
+    pub busy: bool,
+}
+
+#[repr(C)]
+#[derive(Clone, Copy, Debug, Default, PartialEq, Eq)]
+pub struct ServerState {
+    pub budget: u32,
+    pub sporadic: Sporadic,
+}
+
+#[repr(C)]
+#[derive(Clone, Copy, Debug, Default, PartialEq, Eq)]
+pub struct Progress {
+    pub left: [u32; 16],
+    pub server: ServerState,
+    pub clock: u32,
+}
+
+#[repr(C)]
+#[derive(Clone, Copy, Debug, Default, PartialEq, Eq)]
+pub struct Request {
+    pub id: u32,
+    pub work: u32,
+    pub arrival: u32,
+}
+
+#[repr(C)]
+#[derive(Clone, Copy, Debug, PartialEq, Eq)]
+pub struct Queue {
+    pub requests: [Request; 64],
+    pub n: u32,
+}
+
+#[repr(C)]
+#[derive(Clone, Copy, Debug, PartialEq, Eq)]
+pub struct State {
+    pub table: Table,
+    pub progress: Progress,
+    pub queue: Queue,
+}
+
+#[repr(C)]
+#[derive(Clone, Copy, Debug, Default, PartialEq, Eq)]
+pub struct Entry {
+    pub kind: u32,
+    pub id: u32,
+    pub drops: u32,
+}
+
+#[repr(C)]
+#[derive(Clone, Copy, Debug)]
+pub struct SetUpResult {
+    pub number: u32,
+    pub index: u32,
+    pub state: State,
+}
+
+#[repr(C)]
+#[derive(Clone, Copy, Debug)]
+pub struct AdmissionResult {
+    pub number: u32,
+    pub index: u32,
+    pub bounds: [u32; 16],
+    pub serverbound: u32,
+    pub admitted: u32,
+}
+
+#[repr(C)]
+#[derive(Clone, Copy, Debug)]
+pub struct MovedResult {
+    pub number: u32,
+    pub state: State,
+}
+
+#[repr(C)]
+#[derive(Clone, Copy, Debug)]
+pub struct TickResult {
+    pub number: u32,
+    pub kind: u32,
+    pub id: u32,
+    pub drops: u32,
+    pub finished: u32,
+    pub request: u32,
+    pub response: u32,
+    pub state: State,
+}
+
+extern "C" {
+    fn pilqandur_set_up(table: Table) -> SetUpResult;
+    fn pilqandur_admit(table: Table) -> AdmissionResult;
+    fn pilqandur_request(state: State, id: u32, work: u32) -> MovedResult;
+    fn pilqandur_tick(state: State) -> TickResult;
+    fn pilqandur_run(state: State, k: u32, entries: *mut Entry, len: usize) -> MovedResult;
+}
+
+pub fn set_up(table: Table) -> SetUpResult {
+    // SAFETY: numbers by value.
+    unsafe { pilqandur_set_up(table) }
+}
+
+pub fn admit(table: Table) -> AdmissionResult {
+    // SAFETY: numbers by value.
+    unsafe { pilqandur_admit(table) }
+}
+
+pub fn present(state: State, id: u32, work: u32) -> MovedResult {
+    // SAFETY: numbers and bools by value.
+    unsafe { pilqandur_request(state, id, work) }
+}
+
+pub fn tick(state: State) -> TickResult {
+    // SAFETY: numbers and bools by value.
+    unsafe { pilqandur_tick(state) }
+}
+
+pub fn run(state: State, k: u32, entries: &mut [Entry]) -> MovedResult {
+    // SAFETY: the list is lent to this function alone, and goes on with its own length.
+    unsafe { pilqandur_run(state, k, entries.as_mut_ptr(), entries.len()) }
+}

@@ -5,9 +5,9 @@ use differential::convert::to_table;
 use differential::random::Random;
 use second::{Row, Server, Table};
 
-use crate::least;
+use crate::{least, timed};
 
-const GOES: u32 = 5;
+const GOES: u32 = 10;
 const RANDOM: u64 = 3_000;
 
 fn with(rows: Vec<Row>, server: Server) -> Table {
@@ -92,22 +92,21 @@ pub fn print(calls: &Calls) {
     line(calls, "overrun by the server: 1 in 1, above 16 tasks of 1 in 60,000", overrun_by_server());
     let (table, _) = (0..RANDOM)
         .map(|case| random_table(&mut Random::new(11, case)))
-        .map(|table| (table, library_time(calls, 3, &table)))
+        .map(|table| (table, least(5, || [timed(|| admit(calls, &table))])[0]))
         .max_by(|a, b| a.1.total_cmp(&b.1))
         .expect("some table");
     line(calls, &format!("the longest of {RANDOM} random tables"), table);
     println!();
 }
 
-fn library_time(calls: &Calls, goes: u32, table: &Table) -> f64 {
-    let given = to_table(table);
+fn admit(calls: &Calls, table: &Table) {
     // SAFETY: structs by value, no pointer.
-    least(goes, || assert_eq!(unsafe { (calls.admit)(given) }.number, 0))
+    assert_eq!(unsafe { (calls.admit)(to_table(table)) }.number, 0);
 }
 
 fn line(calls: &Calls, name: &str, table: Table) {
-    let library = library_time(calls, GOES, &table) * 1e6;
-    let second = least(GOES, || assert!(second::admit(&table).is_ok())) * 1e6;
+    let [library, second] =
+        least(GOES, || [timed(|| admit(calls, &table)), timed(|| assert!(second::admit(&table).is_ok()))]).map(|seconds| seconds * 1e6);
     // SAFETY: structs by value, no pointer.
     let bounds = unsafe { (calls.admit)(to_table(&table)) }.bounds;
     assert_eq!(second::admit(&table).expect("a table within its limits").bounds, bounds);

@@ -6,13 +6,20 @@ mod runs;
 
 use std::time::Instant;
 
-/// The least time of several goes, in seconds: the machine's other work only ever adds.
-fn least(goes: u32, mut work: impl FnMut()) -> f64 {
-    let mut best = f64::INFINITY;
+/// The seconds that a piece of work takes.
+fn timed(work: impl FnOnce()) -> f64 {
+    let start = Instant::now();
+    work();
+    start.elapsed().as_secs_f64()
+}
+
+/// The least times of several goes, in which those compared take turns: the machine's other work only ever adds.
+fn least<const N: usize>(goes: u32, mut turn: impl FnMut() -> [f64; N]) -> [f64; N] {
+    let mut best = [f64::INFINITY; N];
     for _ in 0..goes {
-        let start = Instant::now();
-        work();
-        best = best.min(start.elapsed().as_secs_f64());
+        for (best, time) in best.iter_mut().zip(turn()) {
+            *best = best.min(time);
+        }
     }
     best
 }

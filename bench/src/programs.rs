@@ -8,10 +8,6 @@ use std::time::Instant;
 const GOES: usize = 3;
 const FOLDER: &str = "target/bench";
 
-extern "C" {
-    fn wait4(pid: i32, status: *mut i32, options: i32, usage: *mut [i64; 18]) -> i32;
-}
-
 fn plan(tasks: u32, requests: u32) -> String {
     let mut text = String::new();
     for i in 0..tasks {
@@ -25,21 +21,21 @@ fn plan(tasks: u32, requests: u32) -> String {
     text + "R,1000000\n"
 }
 
-/// Seconds, kilobytes at the peak, and what it printed.
-fn once(program: &str, plan: &str, to: &str) -> (f64, i64, Vec<u8>) {
-    let path = format!("{FOLDER}/{to}");
+/// Seconds, kilobytes at the peak by GNU time (a child of this process would begin with this one's peak), and what it printed.
+fn once(program: &str, plan: &str, to: &str) -> (f64, String, Vec<u8>) {
+    let (path, peak) = (format!("{FOLDER}/{to}"), format!("{FOLDER}/peak.txt"));
     let start = Instant::now();
-    let mut child = Command::new(program)
+    let mut child = Command::new("/usr/bin/time")
+        .args(["-f", "%M", "-o", &peak, program])
         .stdin(Stdio::piped())
         .stdout(fs::File::create(&path).expect("target is writable"))
         .spawn()
-        .expect("the program starts");
+        .expect("GNU time and the program start");
     child.stdin.take().expect("a pipe").write_all(plan.as_bytes()).expect("the program reads");
-    let (mut status, mut usage) = (0, [0; 18]);
-    // SAFETY: the child is this process's own; a `struct rusage` of 64-bit Linux is 18 words, the fifth the peak in kilobytes.
-    unsafe { wait4(child.id() as i32, &mut status, 0, &mut usage) };
+    child.wait().expect("the program ends");
     let seconds = start.elapsed().as_secs_f64();
-    (seconds, usage[4], fs::read(&path).expect("what it wrote"))
+    let peak = fs::read_to_string(&peak).expect("what time wrote").trim().to_string();
+    (seconds, peak, fs::read(&path).expect("what it wrote"))
 }
 
 pub fn print(product: &str, second: &str) {
@@ -49,13 +45,14 @@ pub fn print(product: &str, second: &str) {
     println!("|---|---|---|---|---|---|");
     for (tasks, requests) in [(1, 0), (1, 3_000), (16, 0), (16, 3_000)] {
         let plan = plan(tasks, requests);
-        let mut best = [(f64::INFINITY, 0); 2];
+        let (mut p, mut s) = (f64::INFINITY, f64::INFINITY);
+        let (mut p_peak, mut s_peak) = (String::new(), String::new());
         for _ in 0..GOES {
             let (a, b) = (once(product, &plan, "product.txt"), once(second, &plan, "second.txt"));
             assert!(a.2 == b.2, "the two programs print the same");
-            best = [(best[0].0.min(a.0), a.1), (best[1].0.min(b.0), b.1)];
+            (p, p_peak) = (p.min(a.0), a.1);
+            (s, s_peak) = (s.min(b.0), b.1);
         }
-        let [(p, p_peak), (s, s_peak)] = best;
         println!("| {tasks} tasks, {requests} requests | {p:.2} | {s:.2} | {:.2} | {p_peak} | {s_peak} |", p / s);
     }
     println!();

@@ -4,10 +4,10 @@ use differential::abi::{self, Calls};
 use differential::convert::{from_entry, from_state, to_state};
 use second::{Entry, Row, Server, State, Table};
 
-use crate::least;
+use crate::{least, timed};
 
-const TICKS: u32 = 50_000;
-const GOES: u32 = 15;
+const TICKS: u32 = 5_000;
+const GOES: u32 = 200;
 const KINDS: [&str; 4] = ["background", "polling", "deferrable", "sporadic"];
 
 extern "C" {
@@ -60,27 +60,30 @@ pub fn print(calls: &Calls) {
 
 /// Nanoseconds a tick: the library, the second implementation, C. The three must agree.
 fn times(calls: &Calls, start: &State) -> [f64; 3] {
-    let each = |seconds: f64| seconds * 1e9 / TICKS as f64;
     let given = to_state(start);
     let mut by_library = vec![abi::Entry::default(); TICKS as usize];
     let mut by_second = vec![Entry::default(); TICKS as usize];
     let mut by_c = vec![abi::Entry::default(); TICKS as usize];
     let (mut moved, mut second, mut c) = (None, *start, given);
-    // SAFETY: each list is lent for the call, with room for the ticks.
-    let library_time = least(GOES, || moved = Some(unsafe { (calls.run)(given, TICKS, by_library.as_mut_ptr(), by_library.len()) }));
-    let second_time = least(GOES, || {
-        second = *start;
-        second.run(TICKS, &mut by_second).expect("a run within its limits");
-    });
-    let c_time = least(GOES, || {
-        c = given;
-        // SAFETY: as above.
-        unsafe { loop_run(&mut c, TICKS, by_c.as_mut_ptr()) };
+    let times = least(GOES, || {
+        [
+            // SAFETY: each list is lent for the call, with room for the ticks.
+            timed(|| moved = Some(unsafe { (calls.run)(given, TICKS, by_library.as_mut_ptr(), by_library.len()) })),
+            timed(|| {
+                second = *start;
+                second.run(TICKS, &mut by_second).expect("a run within its limits");
+            }),
+            timed(|| {
+                c = given;
+                // SAFETY: as above.
+                unsafe { loop_run(&mut c, TICKS, by_c.as_mut_ptr()) };
+            }),
+        ]
     });
     let moved = moved.expect("at least one go");
     assert_eq!((moved.number, from_state(&moved.state)), (0, second));
     assert_eq!(c, moved.state);
     assert_eq!(by_library, by_c);
     assert!(by_library.iter().zip(&by_second).all(|(library, second)| from_entry(*library) == *second));
-    [each(library_time), each(second_time), each(c_time)]
+    times.map(|seconds| seconds * 1e9 / TICKS as f64)
 }

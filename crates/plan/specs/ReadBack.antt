@@ -35,12 +35,12 @@ number-back x h =
 -- ---- fields
 -- digits hold no comma and no line feed
 module _ (c : ℕ) (low : c < 48) where
-  apart : (b : ℕ) → isDigit b ≡ true → eqb b c ≡ false
+  pub apart : (b : ℕ) → isDigit b ≡ true → eqb b c ≡ false
   apart b e =
       let h : 48 ≤ b = leb-true 48 b (and-split (leb 48 b) (leb b 57) e .0) in
       ne-eqb b c (λ q. omega arith)
 
-  first-digit : (b : ℕ) (bs : List ℕ) (d : Bool) → isDigit b ≡ d → cond d (digits bs) false ≡ true → (isDigit b ≡ true) × (digits bs ≡ true)
+  pub first-digit : (b : ℕ) (bs : List ℕ) (d : Bool) → isDigit b ≡ d → cond d (digits bs) false ≡ true → (isDigit b ≡ true) × (digits bs ≡ true)
   first-digit b bs true e h = (e, h)
   first-digit b bs false e h = never refl h
 

@@ -1,0 +1,108 @@
+// One number for a whole state, slots that are not in use included: a refused call hands back a state with the same number, and
+// an accepted call one with the number of the state that it has to hand back.
+use queue::Queue;
+use queue::Request;
+use server::Server;
+use server::ServerState;
+use table::Progress;
+use table::State;
+use table::Table;
+use table::Task;
+
+const MODULUS: u64 = 1000003;
+
+fn mix(h: u64, x: u32) -> u64 {
+    ((h % MODULUS) * 31 + (x as u64)) % MODULUS
+}
+
+fn mix_flag(h: u64, flag: bool) -> u64 {
+    if flag {
+        return mix(h, 1);
+    }
+    mix(h, 0)
+}
+
+fn mix_task(h: u64, task: Task) -> u64 {
+    mix(
+        mix(mix(mix(h, task.phase), task.period), task.exec),
+        task.deadline,
+    )
+}
+
+fn mix_tasks(h: u64, tasks: [Task; 16]) -> u64 {
+    let mut sum = h;
+    let mut i: usize = 0;
+    while i < 16 {
+        let task = tasks[i];
+        sum = mix_task(sum, task);
+        i += 1;
+    }
+    sum
+}
+
+fn mix_server(h: u64, server: Server) -> u64 {
+    mix(
+        mix(mix(mix(h, server.kind), server.place), server.period),
+        server.budget,
+    )
+}
+
+fn mix_table(h: u64, table: Table) -> u64 {
+    let tasks = table.tasks;
+    let server = table.server;
+    mix_server(mix(mix_tasks(h, tasks), table.n), server)
+}
+
+// The numbers of an array, as what is left of the tasks, or their bounds.
+pub fn mix_all(h: u64, numbers: [u32; 16]) -> u64 {
+    let mut sum = h;
+    let mut i: usize = 0;
+    while i < 16 {
+        let x = numbers[i];
+        sum = mix(sum, x);
+        i += 1;
+    }
+    sum
+}
+
+fn mix_server_state(h: u64, server: ServerState) -> u64 {
+    let x = server.sporadic;
+    let times = mix(mix(mix(mix(h, server.budget), x.tr), x.begin), x.nr);
+    mix_flag(
+        mix_flag(mix_flag(mix_flag(times, x.served), x.late), x.above),
+        x.busy,
+    )
+}
+
+fn mix_progress(h: u64, progress: Progress) -> u64 {
+    let left = progress.left;
+    let server = progress.server;
+    mix(mix_server_state(mix_all(h, left), server), progress.clock)
+}
+
+fn mix_request(h: u64, request: Request) -> u64 {
+    mix(mix(mix(h, request.id), request.work), request.arrival)
+}
+
+fn mix_requests(h: u64, requests: [Request; 64]) -> u64 {
+    let mut sum = h;
+    let mut i: usize = 0;
+    while i < 64 {
+        let request = requests[i];
+        sum = mix_request(sum, request);
+        i += 1;
+    }
+    sum
+}
+
+fn mix_queue(h: u64, queue: Queue) -> u64 {
+    let requests = queue.requests;
+    mix_requests(mix(h, queue.n), requests)
+}
+
+pub fn digest(state: State) -> u64 {
+    let table = state.table;
+    let progress = state.progress;
+    let queue = state.queue;
+    mix_queue(mix_progress(mix_table(0, table), progress), queue)
+}

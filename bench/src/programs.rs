@@ -53,7 +53,7 @@ pub fn print(product: &str, second: &str) {
             (p, p_peak) = (p.min(a.0), a.1);
             (s, s_peak) = (s.min(b.0), b.1);
         }
-        println!("| {tasks} tasks, {requests} requests | {p:.2} | {s:.2} | {:.2} | {p_peak} | {s_peak} |", p / s);
+        println!("| {tasks} task{}, {requests} requests | {p:.2} | {s:.2} | {:.2} | {p_peak} | {s_peak} |", if tasks == 1 { "" } else { "s" }, p / s);
     }
     println!();
 }

@@ -5,9 +5,10 @@ Nothing here is taken from the product's definitions or code but the order of a 
 the letters on a line, and three points that document 01 leaves free: a refused set-up hands back the table's fresh state (of an
 unknown kind with b = 0), a refused admission gives 0 everywhere, and slots that are not in use keep what they held.
 
-usage: expected.py > crates/calls/stdout
+usage: expected.py > crates/calls/stdout      (expected.py runs: the cases of runs.rt.txt)
 """
 import copy
+import sys
 
 LIMIT = 60_000
 LAST_CLOCK = 4_000_000_000
@@ -249,6 +250,21 @@ def request(s, ident, work):
     return 0, s
 
 
+def run(s, k, entries):
+    if unfit(s):
+        return 11, s, entries
+    if s["clock"] + k > LAST_CLOCK:
+        return 6, s, entries
+    if len(entries) < k:
+        return 10, s, entries
+    written = []
+    for _ in range(k):
+        _, (occupant, drops, _), s = tick(s)
+        kind, *which = occupant.split()
+        written.append([dict(idle=0, row=1, request=2)[kind], int(which[0]) if which else 0, drops])
+    return 0, s, written + entries[k:]
+
+
 # ---- a line for a case
 def answer(number, index):
     return f"{number} at {index}" if number == 2 else f"{number}"
@@ -330,4 +346,25 @@ def main():
                 print(f"server {kind}{label('waiting', waiting)} work {work}: request {number} state {of(after)}")
 
 
-main()
+RUNS = [
+    ("clock", 100, 0, 0), ("clock", 100, 0, 3), ("clock", 100, 1, 0), ("clock", 100, 3, 3), ("clock", 100, 3, 8),
+    ("clock", 100, 4, 3), ("clock", 100, 8, 8), ("clock", 100, 3999999900, 8), ("clock", 100, 3999999901, 8),
+    ("clock", 100, TOP, 8),
+    ("clock", 3999999997, 3, 3), ("clock", 3999999997, 4, 4), ("clock", 3999999997, 4, 3),
+    ("clock", 4000000000, 0, 0), ("clock", 4000000000, 1, 1), ("clock", 4000000001, 0, 0),
+    ("left 0", 4, 0, 0), ("left 0", 4, 4, 3), ("waiting", 65, TOP, 0),
+    ("waiting", 64, 8, 8), ("waiting", 0, 8, 8), ("work 0", 1, 8, 8),
+]
+
+
+def runs():
+    for kind in range(4):
+        for field, value, k, lent in RUNS:
+            s = base(kind)
+            put(s, field, value)
+            number, after, entries = run(s, k, [[9, 9, 9]] * lent)
+            shown = "".join(f" {a},{b},{c}" for a, b, c in entries + [[9, 9, 9]] * (8 - lent))
+            print(f"server {kind}{label(field, value)} k {k} lent {lent}: run {number} state {of(after)};{shown}")
+
+
+runs() if sys.argv[1:] == ["runs"] else main()

@@ -3,15 +3,16 @@
  * Every function below is proved to give, for every input, what document 01's rules give: the number of the answer, the next state, the
  * bounds, the entries of a run. (crates/capi: the contracts; crates/rules/specs: the rules.) What the proofs take from this header's side:
  *
- *  - The compiler of the caller and the library agree on the x86-64 System V calling convention, and the caller passes structs laid out as
- *    declared here. tests/link compares every size and offset that matters.
+ *  - The caller's compiler and the library agree on the x86-64 System V calling convention, and the caller passes structs laid out as
+ *    declared here. This is tested, not proved: tests/link compares the sizes and offsets of this header with those of the Rust
+ *    declarations and runs a caller of each language; tests/run-calls compares every field of random states that went through the archive.
  *  - A bool holds 0 or 1. Another byte in `served`, `late`, `above` or `busy` is outside the contract: the states that these functions
  *    return hold 0 or 1, and a state made by hand or read from outside has to.
- *  - `entries` points to `len` entries that nobody else reads or writes during the call. If len is 0, any pointer does, NULL too; `len` is
- *    below 2^63 / 12.
+ *  - `entries` points to `len` entries that nobody else reads or writes during the call. It is not NULL and is aligned as an entry is, even if
+ *    len is 0.
  *
- * No function keeps anything between calls, allocates or does input or output. State goes in by value and comes back by value: two
- * schedulers are two states. A call may be made from any thread, and from an interrupt handler if the stack has some 20 kB.
+ * No function keeps anything between calls, allocates or does input or output: the archive has no data of its own, and wants only memcpy, memmove
+ * and memset of the C library. State goes in by value and comes back by value: two schedulers are two states.
  */
 #ifndef PILQANDUR_H
 #define PILQANDUR_H

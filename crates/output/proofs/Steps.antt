@@ -4,20 +4,19 @@ use mathlib.Core.Path.{_≡_, refl, sym, ap, _∙_, subst}
 use mathlib.Core.List.{List, [], _∷_, _++_, append-assoc}
 use mathlib.Core.Logic.{_⊎_, inl, inr, ⊎-elim}
 use native.Mathlib.Omega.{arith}
-use native.Mathlib.Numerals.{add-one}
 use lib.ListN.{length, take, drop}
 use lib.Seq.{drop-drop}
 use Rattle.table.specs.declared.State.{State}
 use Rattle.table.specs.declared.Table.{Table}
 use Rattle.text.specs.Buffer.{Wrote, front, behind, wrote-length}
-use Rattle.rules.specs.Calls.{tickCall}
 use Rattle.plan.specs.declared.Arrival.{Arrival}
 use Rattle.plan.specs.declared.Next.{Next}
 use Rattle.plan.specs.Plan.{arrivalsFrom, nextFrom, unrolled}
 use Rattle.plan.proofs.Arrivals.{Walked, walked}
 use Rattle.output.specs.declared.Place.{Place}
-use Rattle.output.specs.Output.{askedText, tickText, asked, ticksText}
-use Rattle.output.specs.Pieces.{NoneDue, asked-first, tick-first, textFrom, nextLeft, stepsLeft, Stepped, Filled}
+use Rattle.output.specs.Output.{askedText, asked, ticksText}
+use Rattle.output.specs.Blocks.{Free, NotDue, Ran}
+use Rattle.output.specs.Pieces.{asked-first, textFrom, nextLeft, stepsLeft, Stepped, Filled}
 
 -- what was to be printed is a piece and what is to be printed after it
 module _ (bytes : List ℕ) (ticks : ℕ) (p : Place) (early : p .tick < ticks) where
@@ -55,30 +54,15 @@ module _ (bytes : List ℕ) (ticks : ℕ) (p : Place) (early : p .tick < ticks) 
         let f : nextLeft bytes (nextFrom bytes pos) < suc (length bytes - pos) = next-fewer (nextFrom bytes pos) (walked bytes pos .further) in
         omega arith
 
-  module _ (idle : NoneDue (p .tick) (unrolled bytes (p .next))) where
-    abbrev ran : Place
-    ran = record { tick = p .tick + 1; next = p .next; state = tickCall (p .state) .state }
-
-    ticked-text : textFrom bytes ticks p ≡ tickText (p .tick) (tickCall (p .state) .answer) ++ textFrom bytes ticks ran
-    unfolding textFrom
-    ticked-text =
-        ap (λ (k : ℕ). ticksText k (p .tick) (p .state) (unrolled bytes (p .next))) one-more
-        ∙ tick-first (ticks - suc (p .tick)) (p .tick) (p .state) (unrolled bytes (p .next)) idle
-        ∙ ap (λ (t : ℕ). tickText (p .tick) (tickCall (p .state) .answer) ++ ticksText (ticks - t) t (tickCall (p .state) .state) (unrolled bytes (p .next))) (sym (add-one (p .tick)))
-
-    ticked-fewer : stepsLeft bytes ticks ran < stepsLeft bytes ticks p
-    unfolding stepsLeft
-    ticked-fewer = omega arith
-
 stepped :
-    (bytes : List ℕ) (ticks : ℕ) {l m x : List ℕ} {at r : ℕ} (p q : Place) → Wrote l at x m r → r ≤ at + 92 → at + 92 ≤ length l →
+    (bytes : List ℕ) (ticks : ℕ) {l m x : List ℕ} {at r : ℕ} (p q : Place) → Wrote l at x m r → r ≤ length l →
     textFrom bytes ticks p ≡ x ++ textFrom bytes ticks q → stepsLeft bytes ticks q < stepsLeft bytes ticks p → q .tick ≤ ticks →
     Stepped bytes ticks l at p m r q
-stepped bytes ticks {l} {m} {x} {at} {r} p q w h k e f g = record {
+stepped bytes ticks {l} {m} {x} {at} {r} p q w h e f g = record {
   text =
       ap (λ (y : List ℕ). take at l ++ y) e ∙ sym (append-assoc (take at l) x (textFrom bytes ticks q))
-      ∙ ap (λ (y : List ℕ). y ++ textFrom bytes ticks q) (sym (front w (omega arith)));
-  behind = behind w (omega arith);
+      ∙ ap (λ (y : List ℕ). y ++ textFrom bytes ticks q) (sym (front w h));
+  behind = behind w h;
   starts = omega (arith, w .next);
   ends = h;
   same = wrote-length w;
@@ -86,32 +70,38 @@ stepped bytes ticks {l} {m} {x} {at} {r} p q w h k e f g = record {
   within = g;
 }
 
-module _ (bytes : List ℕ) (ticks : ℕ) {l m : List ℕ} {at r : ℕ} (p q : Place) (room : at + 92 ≤ length l) (early : p .tick < ticks) (few : r ≤ at + 92) where
+module _ (bytes : List ℕ) (ticks : ℕ) {l m : List ℕ} {at r : ℕ} (p q : Place) where
   pub step-asked :
+      at + 92 ≤ length l → p .tick < ticks → r ≤ at + 92 →
       (a : Arrival) (pos : ℕ) → p .next ≡ Next.Found a pos → a .tick ≡ p .tick → Wrote l at (askedText (p .tick) (a .id) (asked (p .state) a .answer)) m r →
       q ≡ record { tick = p .tick; next = nextFrom bytes pos; state = asked (p .state) a .state } → Stepped bytes ticks l at p m r q
-  step-asked a pos f d w e =
+  step-asked room early few a pos f d w e =
       subst (Stepped bytes ticks l at p m r) (sym e)
-      (stepped bytes ticks p _ w few room (asked-text bytes ticks p early a pos f d) (asked-fewer bytes ticks p early a pos f d) (omega arith))
+      (stepped bytes ticks p _ w (omega arith) (asked-text bytes ticks p early a pos f d) (asked-fewer bytes ticks p early a pos f d) (omega arith))
 
-  step-ticked :
-      NoneDue (p .tick) (unrolled bytes (p .next)) → Wrote l at (tickText (p .tick) (tickCall (p .state) .answer)) m r →
-      q ≡ record { tick = p .tick + 1; next = p .next; state = tickCall (p .state) .state } → Stepped bytes ticks l at p m r q
-  step-ticked d w e =
-      subst (Stepped bytes ticks l at p m r) (sym e)
-      (stepped bytes ticks p _ w few room (ticked-text bytes ticks p early d) (ticked-fewer bytes ticks p early d) (omega arith))
+  pub step-ran : Ran ticks l at p m r q → Stepped bytes ticks l at p m r q
+  unfolding stepsLeft
+  step-ran h = stepped bytes ticks p q (h .wrote) (h .fits) (h .prints bytes) fewer (h .within)
+    where
+      fewer : stepsLeft bytes ticks q < stepsLeft bytes ticks p
+      fewer = omega (arith, ap (nextLeft bytes) (h .next), h .later, h .within)
 
-  pub step-later :
-      (a : Arrival) (pos : ℕ) → p .next ≡ Next.Found a pos → (a .tick ≡ p .tick → ⊥) → Wrote l at (tickText (p .tick) (tickCall (p .state) .answer)) m r →
-      q ≡ record { tick = p .tick + 1; next = p .next; state = tickCall (p .state) .state } → Stepped bytes ticks l at p m r q
-  unfolding unrolled
-  step-later a pos f n w e = step-ticked (subst (λ (x : Next). NoneDue (p .tick) (unrolled bytes x)) (sym f) n) w e
+-- the ticks of a block, where it has room
+module _ (ticks : ℕ) (p : Place) (k j n at : ℕ) (some : 0 < j) (found : 0 < k → Free ticks p k) (room : 0 < j → (j ≡ k) × (at + 1_472 ≤ n)) where
+  pub room-free : Free ticks p j
+  room-free =
+      let e : j ≡ k = room some .0 in
+      subst (Free ticks p) (sym e) (found (omega arith))
 
-  pub step-last :
-      p .next ≡ Next.Done → Wrote l at (tickText (p .tick) (tickCall (p .state) .answer)) m r →
-      q ≡ record { tick = p .tick + 1; next = p .next; state = tickCall (p .state) .state } → Stepped bytes ticks l at p m r q
-  unfolding unrolled
-  step-last f w e = step-ticked (subst (λ (x : Next). NoneDue (p .tick) (unrolled bytes x)) (sym f) tt) w e
+  pub room-fits : at + 1_472 ≤ n
+  room-fits = room some .1
+
+-- the next A line is not due: it is another tick's, or there is none
+pub later-found : (n : Next) (a : Arrival) (q t : ℕ) → n ≡ Next.Found a q → (a .tick ≡ t → ⊥) → NotDue n t
+later-found n a q t e h = subst (λ (x : Next). NotDue x t) (sym e) h
+
+pub later-done : (n : Next) (t : ℕ) → n ≡ Next.Done → NotDue n t
+later-done n t e = subst (λ (x : Next). NotDue x t) (sym e) tt
 
 -- a buffer being filled: l as it was lent, m as it is now
 pub record Filling (bytes : List ℕ) (ticks : ℕ) (l : List ℕ) (p : Place) (m : List ℕ) (at : ℕ) (q : Place) : Type 0 where

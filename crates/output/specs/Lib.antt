@@ -1,4 +1,5 @@
 pub mod Output
 pub mod Pieces
+pub mod Blocks
 pub mod Whole
 pub mod Cases

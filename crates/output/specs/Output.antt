@@ -26,10 +26,14 @@ use Rattle.plan.specs.Refusal as plan
 use Rattle.plan.specs.Plan.{planOf, arrivalsFrom}
 
 -- ---- the head
--- "B: row (or S) and bound": a line for each task, numbered from i
-unfoldable pub boundsText : ℕ → List ℕ → List ℕ
-boundsText i [] = []
-boundsText i (b ∷ bs) = lineBytes (taskBoundLine i b) ++ boundsText (suc i) bs
+-- a line for each element of a list, numbered from i
+unfoldable pub numbered : {A : Type 0} → (ℕ → A → Line) → ℕ → List A → List ℕ
+numbered line i [] = []
+numbered line i (x ∷ xs) = lineBytes (line i x) ++ numbered line (suc i) xs
+
+-- "B: row (or S) and bound": a line for each task
+abbrev pub boundsText : ℕ → List ℕ → List ℕ
+boundsText i bs = numbered taskBoundLine i bs
 
 -- the server's B line, then "V: admitted 1 or 0"
 unfoldable pub verdictText : ℕ → Bool → List ℕ
@@ -98,5 +102,5 @@ scheduleText bytes = textBy (planOf bytes .answer) (planOf bytes) bytes
 
 -- all of the definitions open, to compute with
 unfoldable pub rules : Unit {0}
-unfolding boundsText verdictText headText dueText afterDue later ticksText textBy scheduleText
+unfolding numbered verdictText headText dueText afterDue later ticksText textBy scheduleText
 rules = tt

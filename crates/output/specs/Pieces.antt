@@ -102,7 +102,7 @@ pub record Stepped (bytes : List ℕ) (ticks : ℕ) (l : List ℕ) (at : ℕ) (p
   pub text : take at l ++ textFrom bytes ticks p ≡ take r m ++ textFrom bytes ticks q
   pub behind : drop r m ≡ drop r l
   pub starts : at ≤ r
-  pub ends : r ≤ at + 92
+  pub ends : r ≤ length l
   pub same : length m ≡ length l
   pub fewer : stepsLeft bytes ticks q < stepsLeft bytes ticks p
   pub within : q .tick ≤ ticks

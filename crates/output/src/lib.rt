@@ -9,12 +9,16 @@ ghost use Rattle.text.specs.Lines.{lineBytes, planRefusedLine};
 ghost use Rattle.plan.specs.Plan.{nextFrom};
 ghost use Rattle.plan.specs.Refusal.{number};
 ghost use Rattle.output.specs.Output.{boundsText, headText, verdictText, asked, askedText, occupantLine, finishText, tickText};
+ghost use Rattle.queue.specs.Queue.{waitingOf};
+ghost use Rattle.output.specs.Blocks.{entryLine, blockText, Unfinished, Undisturbed, Free, NotDue, Ran};
 ghost use Rattle.output.specs.Pieces.{firstPlace, Stepped, Filled};
 use admission::Admission;
 use plan::Arrival;
 use plan::Next;
 use plan::PlanRefusal;
 use queue::Finish;
+use queue::Queue;
+use rules::Entry;
 use rules::Occupant;
 use rules::TickAnswer;
 use table::Checked;
@@ -37,6 +41,11 @@ pub struct Printed {
 
 // The most bytes that a step writes: an X line and an F line.
 pub const STEP_ROOM: usize = 92;
+
+// The most ticks that are run at once, and the most bytes of their X lines.
+const BLOCK: u32 = 32;
+
+const BLOCK_ROOM: usize = 1472;
 
 // The most bytes of the head: a B line for each task, the server's, and the V line.
 pub const HEAD_ROOM: usize = 828;
@@ -213,6 +222,134 @@ fn run_tick(out: &mut [u8], at: usize, p: Place) -> Printed
     }
 }
 
+// The X line of a tick, from its record.
+fn entry_line(t: u32, entry: Entry) -> Line
+    ensures { λ r. ⌜ r ≡ entryLine t entry ⌝ }
+{
+    let kind = entry.kind;
+    match kind {
+        0 => text::tick_line(t, b'I', entry.id, entry.drops),
+        1 => text::tick_line(t, b'T', entry.id, entry.drops),
+        _ => text::tick_line(t, b'A', entry.id, entry.drops),
+    }
+}
+
+// The X lines of k ticks from t on, from their record.
+fn block_lines(out: &mut [u8], at: usize, t: u32, entries: [Entry; 32], k: u32) -> usize
+    requires { ⌜ (k ≤ 32) × (t + k ≤ 4294967295) × (at + 1472 ≤ length (now out)) ⌝ }
+    ensures { λ r. ⌜ (r ≤ at + k * 46) × (Wrote (now (out .entry)) at (blockText t (take k entries)) (now (out .exit)) r) ⌝ }
+{
+    let mut end = at;
+    let mut i: u32 = 0;
+    while i < k {
+        let entry = entries[i as usize];
+        end = text::write_line(out, end, entry_line(t + i, entry));
+        i += 1;
+    }
+    end
+}
+
+// How many ticks the head can be served and still wait; a block's 32 where none waits.
+fn unfinished(queue: Queue) -> u32
+    ensures { λ r. ⌜ (0 < r → Unfinished (waitingOf queue) r) ⌝ }
+{
+    if queue.n == 0 {
+        return BLOCK;
+    }
+    let head = queue.requests[0];
+    if head.work == 0 {
+        return 0;
+    }
+    head.work - 1
+}
+
+// How many ticks there are before the next A line is due.
+fn undisturbed(next: Next, tick: u32) -> u32
+    ensures { λ r. ⌜ (0 < r → Undisturbed next (tick + r)) ⌝ }
+{
+    match next {
+        Next::Found(a, _) => {
+            if a.tick < tick {
+                return 0;
+            }
+            a.tick - tick
+        }
+        Next::Done => BLOCK,
+    }
+}
+
+fn least(a: u32, b: u32) -> u32
+    ensures { λ r. ⌜ (r ≤ a) × (r ≤ b) ⌝ }
+{
+    if a < b {
+        return a;
+    }
+    b
+}
+
+// How many ticks can be run at once: no A line is due before the last, and none of them finishes a request.
+fn free_ticks(ticks: u32, p: Place) -> u32
+    requires { ⌜ p .tick < ticks ⌝ }
+    ensures { λ r. ⌜ (0 < r → Free ticks p r) ⌝ }
+{
+    let state = p.state;
+    let queue = state.queue;
+    let next = p.next;
+    let few = least(BLOCK, ticks - p.tick);
+    let quiet = least(undisturbed(next, p.tick), unfinished(queue));
+    least(few, quiet)
+}
+
+// The same, or 0 where a block's X lines might not fit behind `at` in a buffer of n bytes.
+fn with_room(k: u32, n: usize, at: usize) -> u32
+    requires { ⌜ at ≤ n ⌝ }
+    ensures { λ r. ⌜ (0 < r → (r ≡ k) × (at + 1472 ≤ n)) ⌝ }
+{
+    if n - at < BLOCK_ROOM {
+        return 0;
+    }
+    k
+}
+
+// Runs k ticks at once.
+fn run_ticks(out: &mut [u8], at: usize, p: Place, k: u32) -> Printed
+    requires { ⌜ (0 < k) × (k ≤ 32) × (p .tick + k ≤ 4294967295) × (at + 1472 ≤ length (now out)) ⌝ }
+    ensures { λ r. ⌜ ((ticks : ℕ) → Free ticks p k → Ran ticks (now (out .entry)) at p (now (out .exit)) (r .at) (r .place)) ⌝ }
+{
+    let state = p.state;
+    let next = p.next;
+    let b = scheduler::run_block(state, k);
+    let answer = b.answer;
+    match answer {
+        Checked::Passed => {
+            let entries = b.entries;
+            let moved = b.state;
+            let end = block_lines(out, at, p.tick, entries, k);
+            Printed {
+                place: Place {
+                    tick: p.tick + k,
+                    next,
+                    state: moved,
+                },
+                at: end,
+            }
+        }
+        Checked::Refused(_) => run_tick(out, at, p),
+    }
+}
+
+// Runs ticks that no A line is due for any more: as many at once as can be, or one.
+fn run_on(ticks: u32, out: &mut [u8], at: usize, p: Place) -> Printed
+    requires { ⌜ (at + 92 ≤ length (now out)) × (p .tick < ticks) × NotDue (p .next) (p .tick) ⌝ }
+    ensures { λ r. ⌜ Ran ticks (now (out .entry)) at p (now (out .exit)) (r .at) (r .place) ⌝ }
+{
+    let k = with_room(free_ticks(ticks, p), out.len(), at);
+    if k < 2 {
+        return run_tick(out, at, p);
+    }
+    run_ticks(out, at, p, k)
+}
+
 // One step: an A line that is due, or else the tick.
 fn step(plan: &[u8], ticks: u32, out: &mut [u8], at: usize, p: Place) -> Printed
     requires { ⌜ (at + 92 ≤ length (now out)) × (p .tick < ticks) ⌝ }
@@ -224,10 +361,10 @@ fn step(plan: &[u8], ticks: u32, out: &mut [u8], at: usize, p: Place) -> Printed
             if a.tick == p.tick {
                 present(plan, out, at, p, a, q)
             } else {
-                run_tick(out, at, p)
+                run_on(ticks, out, at, p)
             }
         }
-        Next::Done => run_tick(out, at, p),
+        Next::Done => run_on(ticks, out, at, p),
     }
 }
 

@@ -1,5 +1,5 @@
 -- What a run carries from tick to tick: the ticks that are left may run, and the list is written from the front.
-use Prim.Native.Nat.{ℕ, zero, suc, _+_, _≤_, _<_}
+use Prim.Native.Nat.{ℕ, zero, suc, _+_, _-_, _≤_, _<_}
 use native.Mathlib.Omega.{arith}
 use native.Mathlib.Numerals.{add-one}
 use mathlib.Core.Path.{_≡_, refl, sym, ap, subst, _∙_}
@@ -22,7 +22,12 @@ use Rattle.rules.specs.declared.Moved.{Moved}
 use Rattle.rules.specs.Calls.{unless, clockAllows, ticked, stateAfter, entryOf, runState, runEntries, runCheck, runCall, runList}
 use Rattle.rules.specs.Laws.{Sized, tick-fit}
 use Rattle.scheduler.specs.declared.Allowed.{Allowed}
-use Rattle.scheduler.specs.Parts.{mayRun, allowedBy, allowance, movedTo, ranAt}
+use Rattle.queue.specs.declared.Queue.{Queue}
+use Rattle.queue.specs.Steps.{servedQueue}
+use Rattle.scheduler.specs.declared.Recorded.{Recorded}
+use Rattle.scheduler.specs.declared.Recording.{Recording}
+use Rattle.scheduler.specs.Parts.{joined, mayRun, recordedBy, allowedBy, allowance, movedTo, ranAt, idleEntries, blockCall}
+use Rattle.scheduler.proofs.Together.{may-facts, queue-after}
 
 -- ---- the branches of the check; r is what the function found of the state's fitness
 module _ (s : State) (k lent : ℕ) (r : Bool) (found : r ≡ fit s) where
@@ -135,3 +140,53 @@ run-state s k lent = go (passed (runCheck s k lent)) refl
         movedTo (runCheck s k lent) (runState (cond b k 0) s) ≡ record { answer = runCheck s k lent; state = cond b (runState k s) s }
     go true e = refl
     go false e = refl
+
+-- ---- after i of the ticks of a run from s over the list ys, the state is x and the list ws: what is left gives the rest
+pub record Going (s : State) (ys : List Entry) (ticks : ℕ) (x : State) (ws : List Entry) (i : ℕ) : Type 0 where
+  pub state : runState (ticks - i) x ≡ runState ticks s
+  pub list : ranAt i (ticks - i) x ws ≡ ranAt 0 ticks s ys
+  pub may : mayRun (ticks - i) x ≡ true
+  pub sized : Sized x
+
+module _ (s : State) (ys : List Entry) (ticks : ℕ) where
+  pub going-starts : Sized s → mayRun ticks s ≡ true → Going s ys ticks s ys 0
+  going-starts z h =
+      let e : ticks - 0 ≡ ticks = omega arith in
+      record { state = rw e refl; list = rw e refl; may = rw e h; sized = z }
+
+  module _ (x : State) (ws : List Entry) (i : ℕ) (h : Going s ys ticks x ws i) where
+    pub going-one : i < ticks → mayRun 1 x ≡ true
+    going-one l =
+        let e : ticks - i ≡ suc (ticks - (i + 1)) = omega arith in
+        one (ticks - (i + 1)) x (rw e at (h .may))
+
+    pub going-on : i < ticks → (y : State) → stateAfter x ≡ y → Going s ys ticks y (set ws i (entryOf (ticked x))) (i + 1)
+    going-on l y same =
+        let e : ticks - i ≡ suc (ticks - (i + 1)) = omega arith in
+        let on = onwards (ticks - (i + 1)) x (h .sized) (rw e at (h .may)) in
+        subst (λ (z : State). Going s ys ticks z (set ws i (entryOf (ticked x))) (i + 1)) same
+        (record { state = rw e at (h .state); list = rw e at (h .list); may = on .0; sized = on .1 })
+
+    pub going-ends : ticks ≤ i → (x ≡ runState ticks s) × (ws ≡ ranAt 0 ticks s ys)
+    going-ends l =
+        let e : ticks - i ≡ 0 = omega arith in
+        (rw e at (h .state), rw e at (h .list))
+
+    -- a tick recorded: the queue stays, or its head is served
+    pub going-next : i < ticks → (r : Recorded) → r ≡ recordedBy x → (b : Bool) → r .serves ≡ b →
+        (q : Queue) → q ≡ cond b (servedQueue (x .queue)) (x .queue) → Going s ys ticks (joined (x .table) (r .progress) q) (set ws i (r .entry)) (i + 1)
+    going-next l r e b f q g =
+        let after : cond b (servedQueue (x .queue)) (x .queue) ≡ stateAfter x .queue =
+        queue-after x (may-facts x (going-one l) .waiting) (h .sized .requests) b (rw e at f) in
+        rw (e, g, after) (going-on l (stateAfter x) refl)
+
+-- ---- the whole of a block
+pub block-is : (s : State) (k : ℕ) (g : Allowed) → g ≡ allowance s k 32 → (x : State) (ws : List Entry) (i : ℕ) → Going s idleEntries (g .ticks) x ws i → g .ticks ≤ i →
+    record { answer = g .answer; entries = ws; state = x } ≡ blockCall s k
+unfolding blockCall
+block-is s k g e x ws i h l =
+    let z = going-ends s idleEntries (g .ticks) x ws i h l in
+    let entries : ws ≡ runList s k idleEntries = z .1 ∙ ap (λ (a : Allowed). ranAt 0 (a .ticks) s idleEntries) e ∙ run-list s k idleEntries in
+    let moved : movedTo (g .answer) x ≡ runCall s k 32 = ap (movedTo (g .answer)) (z .0) ∙ ap (λ (a : Allowed). movedTo (a .answer) (runState (a .ticks) s)) e ∙ run-state s k 32 in
+    ap {B = Recording} (λ (es : List Entry). record { answer = g .answer; entries = es; state = x }) entries
+    ∙ ap {B = Recording} (λ (m : Moved). record { answer = m .answer; entries = runList s k idleEntries; state = m .state }) moved

@@ -3,7 +3,7 @@ use Prim.Native.Nat.{ℕ, zero, suc, _+_}
 use mathlib.Core.Path.{_≡_}
 use mathlib.Core.Bool.{Bool, true, false, cond, not, _&&_}
 use mathlib.Core.List.{List, [], _∷_}
-use lib.ListN.{take, set}
+use lib.ListN.{take, set, replicate}
 use Rattle.lists.specs.Lists.{overlay}
 use Rattle.server.specs.declared.Seen.{Seen}
 use Rattle.server.specs.Kind.{kindOf}
@@ -29,9 +29,10 @@ use Rattle.scheduler.specs.declared.Started.{Started}
 use Rattle.scheduler.specs.declared.Decision.{Decision}
 use Rattle.scheduler.specs.declared.Recorded.{Recorded}
 use Rattle.scheduler.specs.declared.Allowed.{Allowed}
+use Rattle.scheduler.specs.declared.Recording.{Recording}
 use Rattle.rules.specs.declared.Moved.{Moved}
 use Rattle.rules.specs.Tick.{expires, dropped, opened, openedAll, anyOpen, firstOpen, turnAt, byBudget}
-use Rattle.rules.specs.Calls.{clockAllows, ticked, stateAfter, entryOf, runCheck}
+use Rattle.rules.specs.Calls.{clockAllows, ticked, stateAfter, entryOf, runCheck, runCall, runList}
 
 -- a state from its parts
 abbrev pub joined : Table → Progress → Queue → State
@@ -132,3 +133,10 @@ movedTo c s = record { answer = c; state = s }
 abbrev pub ranAt : ℕ → ℕ → State → List Entry → List Entry
 ranAt i zero s es = es
 ranAt i (suc m) s es = ranAt (i + 1) m (stateAfter s) (set es i (entryOf (ticked s)))
+
+-- ---- a block: the run call with a list of 32 idle entries, all of it by value
+abbrev pub idleEntries : List Entry
+idleEntries = replicate 32 (record { kind = 0; id = 0; drops = 0 })
+
+unfoldable pub blockCall : State → ℕ → Recording
+blockCall s k = record { answer = runCall s k 32 .answer; entries = runList s k idleEntries; state = runCall s k 32 .state }

@@ -10,7 +10,7 @@ ghost use Rattle.table.specs.Facts.{TableFacts, TaskLimits, noTask};
 ghost use Rattle.rules.specs.Tick.{choose, firstOpen, idleTurn, workedTasks};
 ghost use Rattle.rules.specs.Calls.{requestCall, ticked, ranBy, tickCall, runCall, runList};
 ghost use Rattle.rules.specs.Laws.{Sized};
-ghost use Rattle.scheduler.specs.Parts.{joined, mayRun, steppedBy, openedBy, startedBy, headOf, toRequest, seenOf, Decides, entryFor, occupantFor, recordedBy, allowance};
+ghost use Rattle.scheduler.specs.Parts.{joined, mayRun, steppedBy, openedBy, startedBy, headOf, toRequest, seenOf, Decides, entryFor, occupantFor, recordedBy, allowance, blockCall};
 use queue::Finish;
 use queue::Queue;
 use rules::Entry;
@@ -560,6 +560,51 @@ fn check_run(state: State, k: u32, lent: usize) -> Allowed
     Allowed {
         answer: Checked::Passed,
         ticks,
+    }
+}
+
+// A run of at most 32 ticks, whose record comes by value.
+pub struct Recording {
+    pub answer: Checked,
+    pub entries: [Entry; 32],
+    pub state: State,
+}
+
+// The run call with a list of 32 idle entries: a caller that lends none has the record of the ticks all the same.
+pub fn run_block(state: State, k: u32) -> Recording
+    ensures { λ r. ⌜ r ≡ blockCall state k ⌝ }
+{
+    let allowed = check_run(state, k, 32);
+    let answer = allowed.answer;
+    let ticks = allowed.ticks;
+    let table = state.table;
+    let mut progress = state.progress;
+    let mut queue = state.queue;
+    let mut entries = [Entry {
+        kind: 0,
+        id: 0,
+        drops: 0,
+    }; 32];
+    let mut i: usize = 0;
+    while i < ticks {
+        let d = record_tick(table, progress, queue);
+        let entry = d.entry;
+        let next = d.progress;
+        entries[i] = entry;
+        progress = next;
+        i += 1;
+        if d.serves {
+            queue = queue.serve();
+        }
+    }
+    Recording {
+        answer,
+        entries,
+        state: State {
+            table,
+            progress,
+            queue,
+        },
     }
 }
 

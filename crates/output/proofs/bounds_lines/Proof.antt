@@ -2,9 +2,11 @@
 use mathlib.Core.Path.{_≡_, refl, ap, _∙_}
 use native.Mathlib.Omega.{arith}
 use Prim.Native.Nat.{ℕ, _≤_, _-_, _*_}
-use Rattle.output.proofs.Laws.{bounds-next, bounds-none}
+use Rattle.output.proofs.Laws.{numbered-next, numbered-none}
 use lib.ListN.{length, take}
 use Rattle.text.specs.Buffer.{Wrote, wrote-same, wrote-length}
+use native.Mathlib.Nat.{zero-add}
+use Rattle.text.specs.Lines.{taskBoundLine}
 use Rattle.output.specs.Output.{boundsText}
 use borrow.Author.Needs.{needs}
 use Rattle.output.proofs.bounds_lines.Statement.{statement}
@@ -17,7 +19,7 @@ abbrev μ-loop : tie.MeasureT-loop
 μ-loop out₀ n bounds at₀ i₀ out at i = n - i
 
 loop-holds : tie.Need-loop-holds Inv-loop μ-loop
-loop-holds c = (omega arith, omega arith, c .before .pre .0, c .before .pre .1, c .before .good .1 .0 .1 .0 .1, refl, bounds-none _ (c .before .args .t2))
+loop-holds c = (omega arith, omega arith, c .before .pre .0, c .before .pre .1, c .before .good .1 .0 .1 .0 .1, refl, numbered-none taskBoundLine (c .before .args .t2) 0 _ 0)
 
 cast-b : tie.Need-cast-b Inv-loop μ-loop
 cast-b c = search needs
@@ -49,7 +51,7 @@ loop-again c =
       a .inv .3,
       a .inv .4,
       wrote-length (c .before .before .write-line .ensures .1) ∙ a .inv .5,
-      bounds-next _ _ _ (omega arith) (c .before .before .before .task-bound-line .ensures) (omega arith) (a .inv .6) (c .before .before .write-line .ensures .1),
+      numbered-next taskBoundLine (c .before .before .before .before .before .before .before .before .args .t2) 0 0 (a .i) _ (omega arith) (rw (zero-add (a .i)) (c .before .before .before .task-bound-line .ensures)) (omega arith) (a .inv .6) (c .before .before .write-line .ensures .1),
     )
 
 same-length : tie.Need-same-length Inv-loop μ-loop

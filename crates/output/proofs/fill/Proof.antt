@@ -38,7 +38,7 @@ loop-again : tie.Need-loop-again Inv-loop μ-loop
 loop-again c =
     let a = c .before .before .before .before .before .before .before .before .loop in
     let s = c .before .before .before .step .ensures in
-    (omega (arith, s .ends), a .inv .1, a .inv .2, a .inv .3, filling-on _ _ _ _ _ _ _ _ _ _ (a .inv .4) s)
+    (omega (arith, s .ends, a .inv .4 .same), a .inv .1, a .inv .2, a .inv .3, filling-on _ _ _ _ _ _ _ _ _ _ (a .inv .4) s)
 
 same-length-2 : tie.Need-same-length-2 Inv-loop μ-loop
 same-length-2 c = c .before .before .loop .inv .4 .same

@@ -1,6 +1,7 @@
--- `output::step` meets its contract: an A line that is due, one that is not, or none.
-use Rattle.output.proofs.Steps.{step-asked, step-later, step-last}
+-- `output::step` meets its contract: an A line that is due, or ticks.
+use mathlib.Core.Path.{sym, subst}
 use borrow.Author.Needs.{needs}
+use Rattle.output.proofs.Steps.{step-asked, step-ran, later-found, later-done}
 use Rattle.output.proofs.step.Statement.{statement}
 use Rattle.output.proofs.step.Tie as tie
 
@@ -10,32 +11,39 @@ enum-known-next c = search needs
 present-requires : tie.Need-present-requires
 present-requires c κs = search needs
 
-run-tick-requires : tie.Need-run-tick-requires
-run-tick-requires c κs = search needs
+run-on-requires : tie.Need-run-on-requires
+run-on-requires c κs =
+    let a = c .before .before .before .before .before .before .before .before .before in
+    (a .pre .0, a .pre .1, later-found _ _ _ _ (c .before .before .before .before .before .next .given .1) (c .before .if1 .left))
 
 enum-told : tie.Need-enum-told
 enum-told c = search needs
 
-run-tick-requires-2 : tie.Need-run-tick-requires-2
-run-tick-requires-2 c κs = search needs
+run-on-requires-2 : tie.Need-run-on-requires-2
+run-on-requires-2 c κs =
+    let a = c .before .before .before .before .before in
+    (a .pre .0, a .pre .1, later-done _ _ (c .before .enum-told .given .1))
 
 same-length : tie.Need-same-length
 same-length c = search needs
 
 returns : tie.Need-returns
-returns c = step-asked _ _ (c .before .before .before .before .before .before .before .before .before .before .before .before .args .p) _ (c .before .before .before .before .before .before .before .before .before .before .before .before .pre .0) (c .before .before .before .before .before .before .before .before .before .before .before .before .pre .1) (c .before .before .present .ensures .0) _ _ (c .before .before .before .before .before .before .before .before .next .given .1) (c .before .before .before .before .if1 .taken) (c .before .before .present .ensures .1) (c .before .before .present .ensures .2)
+returns c =
+    let a = c .before .before .before .before .before .before .before .before .before .before .before .before in
+    let x = c .before .before .present .ensures in
+    step-asked _ _ (a .args .p) _ (a .pre .0) (a .pre .1) (x .0) _ _ (c .before .before .before .before .before .before .before .before .next .given .1) (c .before .before .before .before .if1 .taken) (x .1) (x .2)
 
 same-length-2 : tie.Need-same-length-2
 same-length-2 c = search needs
 
 returns-2 : tie.Need-returns-2
-returns-2 c = step-later _ _ (c .before .before .before .before .before .before .before .before .before .before .before .before .args .p) _ (c .before .before .before .before .before .before .before .before .before .before .before .before .pre .0) (c .before .before .before .before .before .before .before .before .before .before .before .before .pre .1) (c .before .before .run-tick .ensures .0) _ _ (c .before .before .before .before .before .before .before .before .next .given .1) (c .before .before .before .before .if1 .left) (c .before .before .run-tick .ensures .1) (c .before .before .run-tick .ensures .2)
+returns-2 c = step-ran _ _ _ _ (c .before .before .run-on .ensures)
 
 same-length-3 : tie.Need-same-length-3
 same-length-3 c = search needs
 
 returns-3 : tie.Need-returns-3
-returns-3 c = step-last _ _ (c .before .before .before .before .before .before .before .before .args .p) _ (c .before .before .before .before .before .before .before .before .pre .0) (c .before .before .before .before .before .before .before .before .pre .1) (c .before .before .run-tick2 .ensures .0) (c .before .before .before .before .enum-told .given .1) (c .before .before .run-tick2 .ensures .1) (c .before .before .run-tick2 .ensures .2)
+returns-3 c = step-ran _ _ _ _ (c .before .before .run-on2 .ensures)
 
 pub step-spec : {M : Type 1} → statement M
 step-spec =
@@ -43,9 +51,9 @@ step-spec =
     (tie.spec
     enum-known-next
     present-requires
-    run-tick-requires
+    run-on-requires
     enum-told
-    run-tick-requires-2
+    run-on-requires-2
     same-length
     returns
     same-length-2

@@ -8,32 +8,13 @@ use lib.ListN.{length, take, drop, getD, set, length-set}
 use lib.Seq.{set-out, set-getD, set-append-left, length-take-le}
 use lib.Dec.{leb, ltb, eqb}
 use borrow.Author.Tests.{lt-ltb, le-ltb, ltb-true, ltb-false, leb-true, le-leb, eqb-true}
-use Rattle.lists.specs.Lists.{any, count, zipWith, overlay}
-use Rattle.lists.specs.Time.{due}
-use Rattle.queue.specs.declared.Request.{Request}
-use Rattle.queue.specs.Laws.{waits-count, head-id, served-empties}
-use Rattle.table.specs.declared.Task.{Task}
+use Rattle.lists.specs.Lists.{any, count, zipWith, overlay, overlay-step, overlay-ahead}
 use Rattle.rules.specs.declared.Turn.{Turn}
-use Rattle.rules.specs.Tick.{isOpen, anyOpen, firstOpen, expires, opened}
 use Rattle.scheduler.specs.declared.Stepped.{Stepped}
-use Rattle.scheduler.specs.declared.Head.{Head}
-use Rattle.scheduler.specs.Parts.{oneIf, steppedBy, headOf}
-
-pub positive : (n : ℕ) → (n ≡ 0 → ⊥) → 0 < n
-positive zero f = absurd (f refl)
-positive (suc n) f = omega arith
-
--- ---- steps 1 and 2 of a task: released or not, b; closed, open past its deadline, or open
-module _ (t : ℕ) (x : Task) (l : ℕ) (r b : Bool) (is : r ≡ due t (x .phase) (x .period)) (said : r ≡ b) where
-  pub closed : l ≡ 0 → record { left = cond b (x .exec) 0; drops = 0 } ≡ steppedBy t x l
-  closed z = rw (z, ← is, said)
-
-  module _ (some : l ≡ 0 → ⊥) (d : Bool) (late : d ≡ due t (x .phase + x .deadline) (x .period)) where
-    pub cut-off : d ≡ true → record { left = cond b (x .exec) 0; drops = 1 } ≡ steppedBy t x l
-    cut-off e = rw (lt-ltb 0 l (positive l some), ← late, e, ← is, said)
-
-    pub goes-on : d ≡ false → record { left = cond b (x .exec) l; drops = 0 } ≡ steppedBy t x l
-    goes-on e = rw (lt-ltb 0 l (positive l some), ← late, e, ← is, said)
+use Rattle.table.specs.declared.Task.{Task}
+use Rattle.table.specs.Facts.{noTask}
+use Rattle.rules.specs.Tick.{isOpen, anyOpen, firstOpen, expires, dropped, opened, openedAll}
+use Rattle.scheduler.specs.Parts.{oneIf, leastOf, soonest, steppedBy}
 
 -- ---- one more of two lists is counted
 pub count-step : {A B : Type 0} (f : A → B → Bool) (i : ℕ) (xs : List A) (ys : List B) (a : A) (b : B) → i < length xs → i < length ys →
@@ -52,9 +33,28 @@ count-step f (suc i) (x ∷ xs) (y ∷ ys) a b h k = go (f x y) (count-step f i 
     go true e = omega arith
     go false e = e
 
-pub one-most : (b : Bool) → oneIf b ≤ 1
+one-most : (b : Bool) → oneIf b ≤ 1
 one-most true = omega arith
 one-most false = omega arith
+
+-- one more task is opened: what is left so far (ns), the drops d, the calm c, and the step s of the next task
+module _ (t : ℕ) (xs : List Task) (ls : List ℕ) (i : ℕ) (h : i < length xs) (k : i < length ls) (ns : List ℕ) (d c : ℕ) (s : Stepped)
+    (opens : ns ≡ overlay (openedAll t (take i xs) (take i ls)) ls) (drops : d ≡ dropped t (take i xs) (take i ls)) (calm : c ≡ soonest t xs i)
+    (steps : s ≡ steppedBy t (getD xs i noTask) (getD ns i 0)) where
+  ahead : getD ns i 0 ≡ getD ls i 0
+  ahead = ap (λ (l : List ℕ). getD l i 0) opens ∙ overlay-ahead (opened t) i xs ls 0
+
+  step-is : s ≡ steppedBy t (getD xs i noTask) (getD ls i 0)
+  step-is = steps ∙ ap (λ (l : ℕ). steppedBy t (getD xs i noTask) l) ahead
+
+  pub open-step : (set ns i (s .left) ≡ overlay (openedAll t (take (suc i) xs) (take (suc i) ls)) ls) × (d + s .drops ≡ dropped t (take (suc i) xs) (take (suc i) ls)) ×
+      (s .drops ≤ 1) × (leastOf c (s .next) ≡ soonest t xs (suc i))
+  open-step = (
+    rw (opens, step-is) (overlay-step (opened t) i xs ls noTask 0 h k),
+    rw (drops, step-is) (sym (count-step (expires t) i xs ls noTask 0 h k)),
+    rw step-is (one-most (expires t (getD xs i noTask) (getD ls i 0))),
+    rw (calm, step-is),
+  )
 
 -- ---- the first open task
 pub first-later : (i : ℕ) (ls : List ℕ) → i < length ls → firstOpen (take i ls) ≡ i → getD ls i 0 ≤ 0 → firstOpen (take (suc i) ls) ≡ suc i
@@ -101,8 +101,3 @@ none-there ls i h = sym (set-out ls i (getD ls i 0 - 1) h)
 
 pub none-left : (ls : List ℕ) (i : ℕ) → getD ls i 0 ≡ 0 → ls ≡ set ls i (getD ls i 0 - 1)
 none-left ls i z = sym (ap (λ (n : ℕ). set ls i n) (rw z refl ∙ sym z) ∙ set-getD ls i 0)
-
--- ---- what a tick reads of a queue that is not empty
-pub head-is : (n : ℕ) (q : List Request) (d : Request) → 0 < n → n ≤ length q →
-    record { waits = true; last = leb (getD q 0 d .work) 1 && leb n 1; id = getD q 0 d .id } ≡ headOf (take n q)
-head-is n q d a h = rw (waits-count n q h, lt-ltb 0 n a, served-empties d n q a h, head-id d n q a h)

@@ -1,3 +1,5 @@
+pub mod Due
+pub mod Given
 pub mod Laws
 pub mod Together
 pub mod Answers

@@ -27,7 +27,7 @@ use Rattle.table.specs.declared.Progress.{Progress}
 use Rattle.table.specs.declared.State.{State}
 use Rattle.table.specs.Model.{taskSetOf, modelOf}
 use Rattle.table.specs.State.{fit}
-use Rattle.table.specs.Facts.{TableFacts, table-facts, StateFacts, fit-facts}
+use Rattle.table.specs.Facts.{TableFacts, table-facts, task-at, StateFacts, fit-facts}
 use Rattle.rules.specs.declared.Turn.{Turn}
 use Rattle.rules.specs.declared.Occupant.{Occupant}
 use Rattle.rules.specs.declared.Entry.{Entry}
@@ -41,7 +41,9 @@ use Rattle.scheduler.specs.declared.Head.{Head}
 use Rattle.scheduler.specs.declared.Started.{Started}
 use Rattle.scheduler.specs.declared.Decision.{Decision}
 use Rattle.scheduler.specs.declared.Recorded.{Recorded}
-use Rattle.scheduler.specs.Parts.{joined, mayRun, openedBy, leftsBy, startedBy, headOf, toRequest, seenOf, decidedBy, entryFor, occupantFor, recordedBy}
+use Rattle.scheduler.specs.Parts.{joined, mayRun, CalmFor, calmAfter, calmOf, openedBy, leftsBy, startedBy, ends, headOf, toRequest, seenOf, decidedBy, entryFor, occupantFor, headWork, shown, givenAfter, servesAt, recordedBy}
+use Rattle.scheduler.proofs.Due.{calm-on}
+use Rattle.scheduler.proofs.Given.{less-length, counted, counted-within, one-more}
 use Rattle.scheduler.proofs.Laws.{first-below}
 
 -- some task is open: the first open one stands before the end
@@ -56,10 +58,10 @@ module _ (t : Table) (p : Progress) (few : t .n ≤ 16) (tasks : length (t .task
       let b : length (take (t .n) (p .left)) ≡ t .n = length-take-le _ _ (rw left few) in
       zip-length (opened (p .clock)) (take (t .n) (t .tasks)) (take (t .n) (p .left)) (a ∙ sym b) ∙ b
 
-  pub start-is : (o : Opened) (first : ℕ) (x : ServerState) → o ≡ openedBy (p .clock) (t .tasks) (p .left) (t .n) →
+  pub start-is : (c : ℕ) (o : Opened) (first : ℕ) (x : ServerState) → o ≡ openedBy (p .clock) (t .tasks) (p .left) (t .n) (calmAfter (p .clock) (t .tasks) (t .n) c) →
       first ≡ firstOpen (take (t .n) (o .left)) → x ≡ replenish (kindOf (t .server .kind)) (t .server) (p .server) (p .clock) (ltb first (t .n)) →
-      record { left = o .left; drops = o .drops; first = first; server = x } ≡ startedBy t p
-  start-is o first x eo ef ex =
+      record { left = o .left; drops = o .drops; calm = o .calm; first = first; server = x } ≡ startedBy t p c
+  start-is c o first x eo ef ex =
       let r : take (t .n) (overlay (leftsBy t p) (p .left)) ≡ leftsBy t p = take-overlay (t .n) (leftsBy t p) (p .left) lefts-length in
       let f : first ≡ firstOpen (leftsBy t p) = ef ∙ ap (λ (o : Opened). firstOpen (take (t .n) (o .left))) eo ∙ ap firstOpen r in
       let b : ltb first (t .n) ≡ anyOpen (leftsBy t p) = ap (λ (i : ℕ). ltb i (t .n)) f ∙ ap (λ (n : ℕ). ltb (firstOpen (leftsBy t p)) n) (sym lefts-length) ∙ first-any (leftsBy t p) in
@@ -141,14 +143,14 @@ module _ (t : Table) (p : Progress) (q : Queue) (may : mayRun 1 (joined t p q) �
   consumed-is =
       consumed-is-consume (t .server) (serverAt (taskSetOf t) (modelOf s)) (seenAt (taskSetOf t) (modelOf s)) (limits .server .period) (facts .clock) (kept .times)
 
-  pub decide-is : (st : Started) (h : Head) (turn : Turn) (l : List ℕ) (e : Seen) (x : ServerState) →
-      st ≡ startedBy t p → h ≡ headOf (waitingOf q) →
+  pub decide-is : (c : ℕ) (st : Started) (h : Head) (turn : Turn) (l : List ℕ) (e : Seen) (x : ServerState) →
+      st ≡ startedBy t p c → h ≡ headOf (waitingOf q) →
       turn ≡ choose (kindOf (t .server .kind)) (ltb (st .first) (t .server .place)) (ltb (st .first) (t .n)) (h .waits) (st .server) (st .first) →
       l ≡ workedTasks turn (st .left) →
       e ≡ seenOf (p .clock) h turn (ltb (st .first) (t .server .place)) (ltb (st .first) (t .n)) →
       x ≡ consumed (t .server) (st .server) e →
-      record { progress = record { left = l; server = x; clock = p .clock + 1 }; turn = turn; drops = st .drops } ≡ decidedBy s
-  decide-is st h turn l e x es eh et el ee ex =
+      record { progress = record { left = l; server = x; clock = p .clock + 1 }; turn = turn; drops = st .drops; calm = st .calm } ≡ decidedBy s c
+  decide-is c st h turn l e x es eh et el ee ex =
       let t1 : turn ≡ turnAt (taskSetOf t) (modelOf s) = et ∙ rw (es, eh, above-is, busy-is) refl in
       let l1 : l ≡ overlay (workedTasks (turnAt (taskSetOf t) (modelOf s)) (leftsBy t p)) (p .left) = el ∙ rw (es, t1) (worked-overlay (turnAt (taskSetOf t) (modelOf s)) (leftsBy t p) (p .left) within) in
       let e1 : e ≡ seenAt (taskSetOf t) (modelOf s) = ee ∙ rw (es, eh, t1, above-is, busy-is) (seen-is (p .clock) (waitingOf q) (turnAt (taskSetOf t) (modelOf s)) (aboveAt (taskSetOf t) (modelOf s)) (busyAt (taskSetOf t) (modelOf s))) in
@@ -168,12 +170,21 @@ occupant-is (Turn.Task i) q = refl
 occupant-is Turn.Budget q = refl
 occupant-is Turn.Spare q = refl
 
-pub record-is : (s : State) (d : Decision) (h : Head) (e : Entry) (b : Bool) → d ≡ decidedBy s → h ≡ headOf (waitingOf (s .queue)) →
-    e ≡ entryFor (d .turn) (h .id) (d .drops) → b ≡ toRequest (d .turn) → record { progress = d .progress; entry = e; serves = b } ≡ recordedBy s
-record-is s d h e b ed eh ee eb =
+pub record-is : (s : State) (c g : ℕ) (d : Decision) (h : Head) (b : Bool) (e : Entry) (k : ℕ) → d ≡ decidedBy s c → h ≡ headOf (waitingOf (s .queue)) →
+    b ≡ toRequest (d .turn) → e ≡ entryFor (d .turn) (h .id) (d .drops) → k ≡ givenAfter b (h .ends) g →
+    record { progress = d .progress; entry = e; calm = d .calm; given = k; leaves = b && h .ends } ≡ recordedBy s c g
+record-is s c g d h b e k ed eh eb ee ek =
     let e1 : e ≡ entryOf (ticked s) = ee ∙ rw (ed, eh) (entry-is (turnAt (taskSetOf (s .table)) (modelOf s)) (waitingOf (s .queue)) (ticked s .drops)) in
-    let b1 : b ≡ toRequest (turnAt (taskSetOf (s .table)) (modelOf s)) = eb ∙ rw ed refl in
-    rw (b1, e1, ed)
+    let b1 : b ≡ servesAt s = eb ∙ rw ed refl in
+    let k1 : k ≡ givenAfter (servesAt s) (ends (waitingOf (s .queue))) g = ek ∙ rw (b1, eh) refl in
+    rw (k1, b1, e1, ed, eh)
+
+-- ---- the calm after a tick
+pub calm-after : (s : State) (c : ℕ) → mayRun 1 s ≡ true → length (s .table .tasks) ≡ 16 → CalmFor (s .table) (s .progress) c →
+    CalmFor (s .table) (stateAfter s .progress) (calmOf s c)
+calm-after s c may long calm =
+    let limits = may-table s may in
+    calm-on (s .progress .clock) (s .table .tasks) (s .table .n) c (λ i h. task-at (s .table) i limits h (omega (arith, long, limits .count))) calm
 
 -- ---- the queue after a tick: it stays, or its head is served
 queue-stays : (q : Queue) → q .n ≤ length (q .requests) → queueWith q (waitingOf q) ≡ q
@@ -212,7 +223,7 @@ module _ (s : State) (room : s .queue .n ≤ 64) (long : length (s .queue .reque
   queue-after false e = after-stay now e
 
   -- the answer of a tick, served or not
-  module _ (d : Decision) (h : Head) (o : Occupant) (ed : d ≡ decidedBy s) (eh : h ≡ headOf (waitingOf (s .queue))) (eo : o ≡ occupantFor (d .turn) (h .id)) where
+  module _ (c : ℕ) (d : Decision) (h : Head) (o : Occupant) (ed : d ≡ decidedBy s c) (eh : h ≡ headOf (waitingOf (s .queue))) (eo : o ≡ occupantFor (d .turn) (h .id)) where
     occupant : o ≡ ticked s .occupant
     occupant = eo ∙ rw (ed, eh) (occupant-is now (waitingOf (s .queue)))
 
@@ -230,3 +241,26 @@ module _ (s : State) (room : s .queue .n ≤ 64) (long : length (s .queue .reque
     ran-stays b e y =
         let v : toRequest now ≡ false = turns b e false y in
         rw (occupant, ed, ← (finish-none (s .progress .clock) now (waitingOf (s .queue)) v), ← (after-stay now v))
+
+-- ---- the queue of a run, whose head has had g ticks of service that it does not show
+module _ (t : Table) (p : Progress) (c : Queue) (z g : ℕ) (may : mayRun 1 (joined t p (shown g c)) ≡ true) (long : length (c .requests) ≡ 64) where
+  abbrev at : State
+  at = joined t p (shown g c)
+
+  after : (b : Bool) → servesAt at ≡ b → cond b (servedQueue (shown g c)) (shown g c) ≡ stateAfter at .queue
+  after b e = queue-after at (may-facts at may .waiting) (less-length g (c .requests) ∙ long) b e
+
+  -- the head leaves: the queue is written
+  pub left-queue : recordedBy at z g .leaves ≡ true → stateAfter at .queue ≡ servedQueue (shown g c)
+  left-queue e = sym (after true (and-split (servesAt at) (ends (waitingOf (shown g c))) e .0))
+
+  -- it stays: its service is counted, which never passes its work nor the clock
+  module _ (stays : recordedBy at z g .leaves ≡ false) where
+    pub kept-queue : stateAfter at .queue ≡ shown (recordedBy at z g .given) c
+    kept-queue = sym (after (servesAt at) refl) ∙ counted c g (may-facts at may .waiting) long (servesAt at) (ends (waitingOf (shown g c))) refl stays
+
+    pub kept-within : g ≤ headWork c → recordedBy at z g .given ≤ headWork c
+    kept-within h = counted-within c g (may-facts at may .waiting) long (servesAt at) (ends (waitingOf (shown g c))) refl stays h
+
+  pub kept-clock : g ≤ p .clock → recordedBy at z g .given ≤ stateAfter at .progress .clock
+  kept-clock h = omega (arith, one-more (servesAt at) (ends (waitingOf (shown g c))) g)

@@ -3,14 +3,14 @@ ghost use Prim.Native.Nat.{ℕ, _+_, _<_, _≤_};
 ghost use lib.ListN.{length, take, getD};
 ghost use mathlib.Core.Bool.{true};
 ghost use mathlib.Core.Path.{_≡_};
-ghost use Rattle.lists.specs.Time.{due};
 ghost use Rattle.server.specs.Kind.{kindOf};
 ghost use Rattle.queue.specs.Queue.{waitingOf, finished};
+ghost use Rattle.queue.specs.Steps.{servedQueue};
 ghost use Rattle.table.specs.Facts.{TableFacts, TaskLimits, noTask};
 ghost use Rattle.rules.specs.Tick.{choose, firstOpen, idleTurn, workedTasks};
 ghost use Rattle.rules.specs.Calls.{requestCall, ticked, ranBy, tickCall, runCall, runList};
 ghost use Rattle.rules.specs.Laws.{Sized};
-ghost use Rattle.scheduler.specs.Parts.{joined, mayRun, steppedBy, openedBy, startedBy, headOf, toRequest, seenOf, Decides, entryFor, occupantFor, recordedBy, allowance, blockCall};
+ghost use Rattle.scheduler.specs.Parts.{joined, mayRun, steppedBy, leastOf, soonest, Calm, CalmFor, calmAfter, headWork, shown, givenAfter, MayRecord, openedBy, startedBy, headOf, toRequest, seenOf, Decides, entryFor, occupantFor, recordedBy, allowance, blockCall};
 use queue::Finish;
 use queue::Queue;
 use rules::Entry;
@@ -30,98 +30,127 @@ use table::Task;
 
 // ---- steps 1 to 3
 
-// What steps 1 and 2 leave of a task, and its drops: 1 or 0.
+// What steps 1 and 2 leave of a task, its drops (1 or 0), and the next tick at which its release or its deadline falls.
 struct Stepped {
     left: u32,
     drops: u32,
+    next: u32,
 }
 
-// The same of every task in use.
+// The same of every task in use: the ticks before `calm` are calm, no release and no deadline falls in them.
 struct Opened {
     left: [u32; Table::MAX_TASKS as usize],
     drops: u32,
+    calm: u32,
 }
 
-// Steps 1 to 3: what is left of each task, the drops, the first open task, and the server after replenishment.
+// Steps 1 to 3: what is left of each task, the drops, the calm, the first open task, and the server after replenishment.
 struct Started {
     left: [u32; Table::MAX_TASKS as usize],
     drops: u32,
+    calm: u32,
     first: u32,
     server: ServerState,
 }
 
-// t is start, or a whole number of periods after it.
-fn is_due(t: u32, start: u32, period: u32) -> bool
-    requires { ⌜ 0 < period ⌝ }
-    ensures { λ r. ⌜ r ≡ due t start period ⌝ }
-{
-    if t < start {
-        return false;
-    }
-    (t - start) % period == 0
-}
-
-// Steps 1 and 2 of a task.
+// Steps 1 and 2 of a task. One division tells release and deadline.
 fn step_task(t: u32, task: Task, left: u32) -> Stepped
-    requires { ⌜ TaskLimits task ⌝ }
+    requires { ⌜ TaskLimits task × (t < 4000000000) ⌝ }
     ensures { λ r. ⌜ r ≡ steppedBy t task left ⌝ }
 {
-    let released = is_due(t, task.phase, task.period);
-    if left == 0 {
-        if released {
-            return Stepped {
-                left: task.exec,
-                drops: 0,
-            };
-        }
-        return Stepped { left: 0, drops: 0 };
+    if t < task.phase {
+        return Stepped {
+            left,
+            drops: 0,
+            next: task.phase,
+        };
     }
-    let late = is_due(t, task.phase + task.deadline, task.period);
-    if late {
-        if released {
+    let since = (t - task.phase) % task.period;
+    if since == 0 {
+        let next = t + task.deadline;
+        if (0 < left) & (task.period <= task.deadline) & (task.phase < t) {
             return Stepped {
                 left: task.exec,
                 drops: 1,
+                next,
             };
         }
-        return Stepped { left: 0, drops: 1 };
-    }
-    if released {
         return Stepped {
             left: task.exec,
             drops: 0,
+            next,
         };
     }
-    Stepped { left, drops: 0 }
+    if since < task.deadline {
+        return Stepped {
+            left,
+            drops: 0,
+            next: t + (task.deadline - since),
+        };
+    }
+    let next = t + (task.period - since);
+    if (since == task.deadline) & (0 < left) {
+        return Stepped {
+            left: 0,
+            drops: 1,
+            next,
+        };
+    }
+    Stepped {
+        left,
+        drops: 0,
+        next,
+    }
 }
 
-// Steps 1 and 2 of the n tasks in use.
-fn open_tasks(
-    t: u32,
-    tasks: [Task; Table::MAX_TASKS as usize],
-    left: [u32; Table::MAX_TASKS as usize],
-    n: u32,
-) -> Opened
-    requires { ⌜ n ≤ 16 ⌝ }
-    requires { ⌜ ((i : ℕ) → i < n → TaskLimits (getD tasks i noTask)) ⌝ }
-    ensures { λ r. ⌜ r ≡ openedBy t tasks left n ⌝ }
+fn lesser(a: u32, b: u32) -> u32
+    ensures { λ r. ⌜ r ≡ leastOf a b ⌝ }
+{
+    if b < a {
+        return b;
+    }
+    a
+}
+
+// Steps 1 and 2 of the tasks in use.
+fn open_tasks(table: Table, left: [u32; Table::MAX_TASKS as usize], t: u32) -> Opened
+    requires { ⌜ TableFacts table × (t < 4000000000) ⌝ }
+    ensures { λ r. ⌜ r ≡ openedBy t (table .tasks) left (table .n) (soonest t (table .tasks) (table .n)) ⌝ }
 {
     let mut now_left = left;
     let mut drops: u32 = 0;
+    let mut calm = Table::LAST_CLOCK;
     let mut i: usize = 0;
-    let end = n as usize;
+    let end = table.n as usize;
     while i < end {
-        let task = tasks[i];
-        let was = left[i];
+        let task = table.tasks[i];
+        let was = now_left[i];
         let s = step_task(t, task, was);
         now_left[i] = s.left;
         drops += s.drops;
+        calm = lesser(calm, s.next);
         i += 1;
     }
     Opened {
         left: now_left,
         drops,
+        calm,
     }
+}
+
+// The same, passed over in a calm tick.
+fn open_due(table: Table, left: [u32; Table::MAX_TASKS as usize], t: u32, calm: u32) -> Opened
+    requires { ⌜ TableFacts table × (t < 4000000000) × Calm (table .tasks) (table .n) t calm ⌝ }
+    ensures { λ r. ⌜ r ≡ openedBy t (table .tasks) left (table .n) (calmAfter t (table .tasks) (table .n) calm) ⌝ }
+{
+    if t < calm {
+        return Opened {
+            left,
+            drops: 0,
+            calm,
+        };
+    }
+    open_tasks(table, left, t)
 }
 
 // The index of the first open task of n, or n.
@@ -141,15 +170,14 @@ fn first_open(left: [u32; Table::MAX_TASKS as usize], n: u32) -> u32
 }
 
 // Steps 1 to 3 of a tick.
-fn start(table: Table, progress: Progress) -> Started
-    requires { ⌜ TableFacts table ⌝ }
-    ensures { λ r. ⌜ r ≡ startedBy table progress ⌝ }
+fn start(table: Table, progress: Progress, calm: u32) -> Started
+    requires { ⌜ TableFacts table × (progress .clock < 4000000000) × CalmFor table progress calm ⌝ }
+    ensures { λ r. ⌜ r ≡ startedBy table progress calm ⌝ }
 {
-    let tasks = table.tasks;
     let left = progress.left;
     let n = table.n;
     let t = progress.clock;
-    let opened = open_tasks(t, tasks, left, n);
+    let opened = open_due(table, left, t, calm);
     let now_left = opened.left;
     let first = first_open(now_left, n);
     let server = progress.server;
@@ -157,6 +185,7 @@ fn start(table: Table, progress: Progress) -> Started
     Started {
         left: now_left,
         drops: opened.drops,
+        calm: opened.calm,
         first,
         server: full,
     }
@@ -206,31 +235,73 @@ fn choose_turn(
 
 // ---- step 5
 
-// All that a tick reads of a queue: whether a request waits, whether none waits after a served tick, the head's id.
+// All that a tick reads of a queue: whether a request waits, whether a served tick is the head's last, whether none waits after it,
+// the head's id.
 struct Head {
     waits: bool,
+    ends: bool,
     last: bool,
     id: u32,
 }
 
-fn head_of(queue: Queue) -> Head
-    requires { ⌜ queue .n ≤ 64 ⌝ }
-    ensures { λ r. ⌜ r ≡ headOf (waitingOf queue) ⌝ }
+// The head has had `given` ticks of service since the queue was written.
+fn head_of(queue: Queue, given: u32) -> Head
+    requires { ⌜ (queue .n ≤ 64) × (given ≤ headWork queue) ⌝ }
+    ensures { λ r. ⌜ r ≡ headOf (waitingOf (shown given queue)) ⌝ }
 {
     let n = queue.n;
     if n == 0 {
         return Head {
             waits: false,
+            ends: true,
             last: true,
             id: 0,
         };
     }
     let head = queue.requests[0];
+    let ends = head.work - given <= 1;
     Head {
         waits: true,
-        last: (head.work <= 1) & (n <= 1),
+        ends,
+        last: ends & (n <= 1),
         id: head.id,
     }
+}
+
+// The queue, written to show what its head has had.
+fn show_given(queue: Queue, given: u32) -> Queue
+    requires { ⌜ given ≤ headWork queue ⌝ }
+    ensures { λ r. ⌜ r ≡ shown given queue ⌝ }
+{
+    if given == 0 {
+        return queue;
+    }
+    let mut head = queue.requests[0];
+    let work = head.work;
+    head.work = work - given;
+    let mut next = queue;
+    next.requests[0] = head;
+    next
+}
+
+// The queue after the head's last tick.
+fn leave(queue: Queue, given: u32) -> Queue
+    requires { ⌜ given ≤ headWork queue ⌝ }
+    ensures { λ r. ⌜ r ≡ servedQueue (shown given queue) ⌝ }
+{
+    let now = show_given(queue, given);
+    now.serve()
+}
+
+// What the head has had after a tick: one more if the tick was its, and not its last.
+fn count_given(serves: bool, ends: bool, given: u32) -> u32
+    requires { ⌜ given < 4000000000 ⌝ }
+    ensures { λ r. ⌜ r ≡ givenAfter serves ends given ⌝ }
+{
+    if serves & !ends {
+        return given + 1;
+    }
+    given
 }
 
 // The tick goes to a request.
@@ -319,16 +390,17 @@ struct Decision {
     progress: Progress,
     turn: Turn,
     drops: u32,
+    calm: u32,
 }
 
 // It sees the queue's head alone, so that a run does not copy the queue in every tick.
-fn decide(table: Table, progress: Progress, head: Head) -> Decision
-    requires { ⌜ TableFacts table × (progress .clock < 4000000000) ⌝ }
-    ensures { λ r. ⌜ Decides table progress head r ⌝ }
+fn decide(table: Table, progress: Progress, head: Head, calm: u32) -> Decision
+    requires { ⌜ TableFacts table × (progress .clock < 4000000000) × CalmFor table progress calm ⌝ }
+    ensures { λ r. ⌜ Decides table progress head calm r ⌝ }
 {
     let server = table.server;
     let t = progress.clock;
-    let s = start(table, progress);
+    let s = start(table, progress, calm);
     let full = s.server;
     let above = s.first < server.place;
     let busy = s.first < table.n;
@@ -345,6 +417,7 @@ fn decide(table: Table, progress: Progress, head: Head) -> Decision
         },
         turn,
         drops: s.drops,
+        calm: s.calm,
     }
 }
 
@@ -368,25 +441,30 @@ fn entry_of(turn: Turn, id: u32, drops: u32) -> Entry
     }
 }
 
-// The same with the tick's record, for a run.
+// The same with the tick's record, for a run: the queue is written only where the head leaves, and till then its service is counted.
 struct Recorded {
     progress: Progress,
     entry: Entry,
-    serves: bool,
+    calm: u32,
+    given: u32,
+    leaves: bool,
 }
 
-fn record_tick(table: Table, progress: Progress, queue: Queue) -> Recorded
-    requires { ⌜ mayRun 1 (joined table progress queue) ≡ true ⌝ }
-    ensures { λ r. ⌜ r ≡ recordedBy (joined table progress queue) ⌝ }
+fn record_tick(table: Table, progress: Progress, queue: Queue, calm: u32, given: u32) -> Recorded
+    requires { ⌜ MayRecord table progress queue calm given ⌝ }
+    ensures { λ r. ⌜ r ≡ recordedBy (joined table progress (shown given queue)) calm given ⌝ }
 {
-    let head = head_of(queue);
-    let d = decide(table, progress, head);
+    let head = head_of(queue, given);
+    let d = decide(table, progress, head, calm);
     let turn = d.turn;
     let next = d.progress;
+    let serves = to_request(turn);
     Recorded {
         progress: next,
         entry: entry_of(turn, head.id, d.drops),
-        serves: to_request(turn),
+        calm: d.calm,
+        given: count_given(serves, head.ends, given),
+        leaves: serves & head.ends,
     }
 }
 
@@ -434,8 +512,8 @@ fn run_tick(state: State) -> Ticked
     let table = state.table;
     let progress = state.progress;
     let queue = state.queue;
-    let head = head_of(queue);
-    let d = decide(table, progress, head);
+    let head = head_of(queue, 0);
+    let d = decide(table, progress, head, 0);
     let turn = d.turn;
     let next = d.progress;
     let occupant = occupant_of(turn, head.id);
@@ -563,6 +641,18 @@ fn check_run(state: State, k: u32, lent: usize) -> Allowed
     }
 }
 
+// The state that a run comes to.
+fn settle(table: Table, progress: Progress, queue: Queue, given: u32) -> State
+    requires { ⌜ given ≤ headWork queue ⌝ }
+    ensures { λ r. ⌜ r ≡ joined table progress (shown given queue) ⌝ }
+{
+    State {
+        table,
+        progress,
+        queue: show_given(queue, given),
+    }
+}
+
 // A run of at most 32 ticks, whose record comes by value.
 pub struct Recording {
     pub answer: Checked,
@@ -585,31 +675,34 @@ pub fn run_block(state: State, k: u32) -> Recording
         id: 0,
         drops: 0,
     }; 32];
+    let mut calm: u32 = 0;
+    let mut given: u32 = 0;
     let mut i: usize = 0;
     while i < ticks {
-        let d = record_tick(table, progress, queue);
+        let d = record_tick(table, progress, queue, calm, given);
         let entry = d.entry;
         let next = d.progress;
         entries[i] = entry;
         progress = next;
+        calm = d.calm;
         i += 1;
-        if d.serves {
-            queue = queue.serve();
+        if d.leaves {
+            queue = leave(queue, given);
+            given = 0;
+        } else {
+            given = d.given;
         }
     }
+    let at = settle(table, progress, queue, given);
     Recording {
         answer,
         entries,
-        state: State {
-            table,
-            progress,
-            queue,
-        },
+        state: at,
     }
 }
 
-// The run call: k ticks, the record of each in the lent list, or refusal 11, 6 or 10. Fitness is looked at once, and the queue is
-// touched only where a tick goes to a request.
+// The run call: k ticks, the record of each in the lent list, or refusal 11, 6 or 10. Fitness is looked at once, the tasks only
+// where the calm ends, and the queue is written only where its head leaves.
 pub fn run(state: State, k: u32, entries: &mut [Entry]) -> Moved
     ensures { λ r. ⌜ (r ≡ runCall state k (length (now (entries .entry)))) × (now (entries .exit) ≡ runList state k (now (entries .entry))) ⌝ }
 {
@@ -618,21 +711,23 @@ pub fn run(state: State, k: u32, entries: &mut [Entry]) -> Moved
     let table = state.table;
     let mut progress = state.progress;
     let mut queue = state.queue;
+    let mut calm: u32 = 0;
+    let mut given: u32 = 0;
     let mut i: usize = 0;
     while i < allowed.ticks {
-        let d = record_tick(table, progress, queue);
+        let d = record_tick(table, progress, queue, calm, given);
         entries[i] = d.entry;
         progress = d.progress;
+        calm = d.calm;
         i += 1;
-        if d.serves {
-            queue = queue.serve();
+        if d.leaves {
+            queue = leave(queue, given);
+            given = 0;
+        } else {
+            given = d.given;
         }
     }
-    let at = State {
-        table,
-        progress,
-        queue,
-    };
+    let at = settle(table, progress, queue, given);
     Moved {
         answer: allowed.answer,
         state: at,

@@ -3,19 +3,15 @@ use borrow.Author.Needs.{needs}
 use native.Mathlib.Omega.{arith}
 use mathlib.Core.Path.{_≡_}
 use lib.ListN.{length, length-map}
-use Rattle.table.specs.Facts.{task-at}
 use Rattle.scheduler.proofs.Together.{start-is}
 use Rattle.scheduler.proofs.start.Statement.{statement}
 use Rattle.scheduler.proofs.start.Tie as tie
 
-open-tasks-requires : tie.Need-open-tasks-requires
-open-tasks-requires c κs =
-    let a = c .before .before in
-    let l : length (a .args .table .tasks) ≡ 16 = simp length-map at (a .good .0 .1 .1 .0 .1 .0 .1) in
-    (a .pre .count, λ i h. task-at (a .args .table) i (a .pre) h (omega (arith, a .pre .count)))
+open-due-requires : tie.Need-open-due-requires
+open-due-requires c κs = c .before .pre
 
 first-open-requires : tie.Need-first-open-requires
-first-open-requires c κs = search needs
+first-open-requires c κs = c .before .before .before .pre .0 .count
 
 replenish-requires : tie.Need-replenish-requires
 replenish-requires c κs = search needs
@@ -23,11 +19,11 @@ replenish-requires c κs = search needs
 returns : tie.Need-returns
 returns c =
     let o = c .before .before .before .before in
-    let a = o .before .before .before in
+    let a = o .before .before in
     let l : length (a .args .table .tasks) ≡ 16 = simp length-map at (a .good .0 .1 .1 .0 .1 .0 .1) in
     let m : length (a .args .progress .left) ≡ 16 = simp length-map at (a .good .1 .0 .1 .1 .0 .1 .0 .1) in
-    start-is (a .args .table) (a .args .progress) (a .pre .count) l m (o .open-tasks .result) (c .before .before .first-open .result) (c .replenish .result)
-    (o .open-tasks .ensures) (c .before .before .first-open .ensures) (c .replenish .ensures)
+    start-is (a .args .table) (a .args .progress) (a .pre .0 .count) l m (a .args .calm) (o .open-due .result) (c .before .before .first-open .result) (c .replenish .result)
+    (o .open-due .ensures) (c .before .before .first-open .ensures) (c .replenish .ensures)
 
 pub start-spec : {M : Type 1} → statement M
-start-spec = tie.close (tie.spec open-tasks-requires first-open-requires replenish-requires returns)
+start-spec = tie.close (tie.spec open-due-requires first-open-requires replenish-requires returns)

@@ -63,6 +63,57 @@ fn overrun_together() -> Table {
     with(rows, background(16))
 }
 
+/// Rows from pairs of execution and period.
+fn rows(pairs: &[(u32, u32)]) -> Vec<Row> {
+    pairs.iter().map(|&(exec, period)| row(period, exec)).collect()
+}
+
+/// Found by a search for tables whose jumps are many: load 0.9999.
+fn searched() -> Table {
+    let rows = rows(&[
+        (1, 6),
+        (1, 25),
+        (1, 17),
+        (1, 18),
+        (1, 28),
+        (1, 7),
+        (1, 33_164),
+        (1, 19_549),
+        (1, 43_087),
+        (1, 53_793),
+        (1, 55_649),
+        (1, 37_933),
+        (1, 59_999),
+        (1, 34_634),
+        (1, 59_998),
+        (3, 60_000),
+    ]);
+    with(rows, Server { kind: 2, place: 2, period: 6, budget: 3 })
+}
+
+/// Another, without a deferrable server: load 0.9999, and the server's own bound is searched for to the end too.
+fn searched_tasks() -> Table {
+    let rows = rows(&[
+        (2, 28),
+        (1, 13),
+        (3, 6),
+        (1, 112),
+        (1, 105),
+        (1, 95),
+        (1, 21),
+        (2, 32),
+        (2, 75),
+        (5, 72),
+        (3, 92),
+        (2, 101),
+        (3, 47),
+        (1, 32_268),
+        (1, 59_996),
+        (3, 60_000),
+    ]);
+    with(rows, Server { kind: 3, place: 14, period: 40_969, budget: 1 })
+}
+
 fn random_table(random: &mut Random) -> Table {
     let n = random.from(1, 16);
     let most = random.pick(&[10, 100, 1_000, 60_000]);
@@ -80,6 +131,35 @@ fn random_table(random: &mut Random) -> Table {
     }
 }
 
+/// Tasks that leave little to the others, which want 1 to 3 in 60,000.
+fn random_full_table(random: &mut Random) -> Table {
+    let full = random.from(2, 15);
+    let most = random.pick(&[10, 60, 200, 1_000]);
+    let mut left = 1.0;
+    let mut rows: Vec<Row> = Vec::new();
+    for _ in 0..full {
+        let period = random.from(2, most);
+        let exec = random.from(1, (0.6 * left * f64::from(period)) as u32 + 1);
+        let rest = left - f64::from(exec) / f64::from(period);
+        if rest > 0.0 {
+            left = rest;
+            rows.push(row(period, exec));
+        }
+    }
+    rows.resize_with(16, || row(60_000, random.from(1, 3)));
+    with(rows, background(16))
+}
+
+/// The table of many random ones that takes the library longest.
+fn longest(calls: &Calls, table: fn(&mut Random) -> Table) -> Table {
+    (0..RANDOM)
+        .map(|case| table(&mut Random::new(11, case)))
+        .map(|table| (table, least(5, || [timed(|| admit(calls, &table))])[0]))
+        .max_by(|a, b| a.1.total_cmp(&b.1))
+        .expect("some table")
+        .0
+}
+
 pub fn print(calls: &Calls) {
     println!("## Admission, microseconds a table\n");
     println!("| table | library | second | library/second |");
@@ -90,12 +170,14 @@ pub fn print(calls: &Calls) {
     line(calls, "overrun together: 15 tasks of 1 in 15, then one of 1 in 60,000", overrun_together());
     line(calls, "overrun: task of 1 in 1, then 15 of 1 in 60,000", overrun());
     line(calls, "overrun by the server: 1 in 1, above 16 tasks of 1 in 60,000", overrun_by_server());
-    let (table, _) = (0..RANDOM)
-        .map(|case| random_table(&mut Random::new(11, case)))
-        .map(|table| (table, least(5, || [timed(|| admit(calls, &table))])[0]))
-        .max_by(|a, b| a.1.total_cmp(&b.1))
-        .expect("some table");
-    line(calls, &format!("the longest of {RANDOM} random tables"), table);
+    line(
+        calls,
+        "searched for: 6 tasks of 1 in 6 to 28 and a deferrable server of 3 in 6, then 10 of 1 to 3 in 19,549 to 60,000",
+        searched(),
+    );
+    line(calls, "searched for: 13 tasks of 1 to 5 in 6 to 112, then 3, and a sporadic server of 1 in 40,969", searched_tasks());
+    line(calls, &format!("the longest of {RANDOM} random tables"), longest(calls, random_table));
+    line(calls, &format!("the longest of {RANDOM} random tables of load near 1"), longest(calls, random_full_table));
     println!();
 }
 

@@ -2,7 +2,6 @@
 // an accepted call one with the number of the state that it has to hand back.
 use queue::Queue;
 use queue::Request;
-use server::Server;
 use server::ServerState;
 use table::Progress;
 use table::State;
@@ -15,18 +14,15 @@ fn mix(h: u64, x: u32) -> u64 {
     ((h % MODULUS) * 31 + (x as u64)) % MODULUS
 }
 
-fn mix_flag(h: u64, flag: bool) -> u64 {
-    if flag {
-        return mix(h, 1);
-    }
-    mix(h, 0)
+fn mix_four(h: u64, a: u32, b: u32, c: u32, d: u32) -> u64 {
+    mix(mix(mix(mix(h, a), b), c), d)
 }
 
-fn mix_task(h: u64, task: Task) -> u64 {
-    mix(
-        mix(mix(mix(h, task.phase), task.period), task.exec),
-        task.deadline,
-    )
+pub fn bit(flag: bool) -> u32 {
+    if flag {
+        return 1;
+    }
+    0
 }
 
 fn mix_tasks(h: u64, tasks: [Task; 16]) -> u64 {
@@ -34,23 +30,22 @@ fn mix_tasks(h: u64, tasks: [Task; 16]) -> u64 {
     let mut i: usize = 0;
     while i < 16 {
         let task = tasks[i];
-        sum = mix_task(sum, task);
+        sum = mix_four(sum, task.phase, task.period, task.exec, task.deadline);
         i += 1;
     }
     sum
 }
 
-fn mix_server(h: u64, server: Server) -> u64 {
-    mix(
-        mix(mix(mix(h, server.kind), server.place), server.period),
-        server.budget,
-    )
-}
-
 fn mix_table(h: u64, table: Table) -> u64 {
     let tasks = table.tasks;
-    let server = table.server;
-    mix_server(mix(mix_tasks(h, tasks), table.n), server)
+    let s = table.server;
+    mix_four(
+        mix(mix_tasks(h, tasks), table.n),
+        s.kind,
+        s.place,
+        s.period,
+        s.budget,
+    )
 }
 
 // The numbers of an array, as what is left of the tasks, or their bounds.
@@ -67,10 +62,12 @@ pub fn mix_all(h: u64, numbers: [u32; 16]) -> u64 {
 
 fn mix_server_state(h: u64, server: ServerState) -> u64 {
     let x = server.sporadic;
-    let times = mix(mix(mix(mix(h, server.budget), x.tr), x.begin), x.nr);
-    mix_flag(
-        mix_flag(mix_flag(mix_flag(times, x.served), x.late), x.above),
-        x.busy,
+    mix_four(
+        mix_four(h, server.budget, x.tr, x.begin, x.nr),
+        bit(x.served),
+        bit(x.late),
+        bit(x.above),
+        bit(x.busy),
     )
 }
 

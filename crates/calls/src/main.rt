@@ -8,90 +8,84 @@ mod states;
 use print::edit;
 use print::field;
 use print::text;
+use states::edited;
 use states::state_with;
 use table::State;
 use table::Table;
 
 // ---- a line for a case
 
-// What a tick and a request do to a state.
-fn state_calls(state: State) {
-    print::fit(state);
+// Each of these calls stands alone: the check of a function grows with its steps times the states that it holds.
+fn tick_call(state: State) {
     print::ticked(scheduler::tick(state));
-    print::moved(b"; request ", scheduler::request(state, 5, 1));
+}
+
+fn request_call(word: &[u8], state: State, id: u32, work: u32) {
+    print::moved(word, scheduler::request(state, id, work));
+}
+
+fn set_up_call(table: Table) {
+    print::set_up(table.set_up());
 }
 
 // What the calls on a table answer.
 fn table_calls(table: Table) {
     print::checked(b"; check ", table.check());
-    print::set_up(table.set_up());
+    set_up_call(table);
     print::admission(admission::admit(table));
 }
 
-fn state_case(kind: u32, letter: u8, slot: usize, value: u32) {
-    let state = state_with(states::state(kind), letter, slot, value);
-    field(b"server ", kind as u64);
-    edit(letter, slot, value);
-    text(b":");
-    state_calls(state);
+// What the calls answer on a state, and on its table too where a case is of the table.
+fn answers(state: State, of_table: bool) {
+    print::fit(state);
+    tick_call(state);
+    request_call(b"; request ", state, 5, 1);
+    if of_table {
+        table_calls(state.table);
+    }
     text(b"\n");
 }
 
-// A table's fields: the calls on the table too.
-fn table_case(kind: u32, letter: u8, slot: usize, value: u32) {
-    let state = state_with(states::state(kind), letter, slot, value);
-    let table = state.table;
+// The start of a line: the kind of server, and the field that the case changes.
+fn starts(kind: u32, letter: u8, slot: usize, value: u32) {
     field(b"server ", kind as u64);
     edit(letter, slot, value);
-    text(b":");
-    state_calls(state);
-    table_calls(table);
-    text(b"\n");
+}
+
+fn case(kind: u32, letter: u8, slot: usize, value: u32, of_table: bool) {
+    starts(kind, letter, slot, value);
+    answers(edited(kind, letter, slot, value), of_table);
 }
 
 // Two fields at once: the order of the refusals.
 fn pair_case(kind: u32, letter: u8, slot: usize, value: u32, also: u8, at: usize, other: u32) {
-    let state = state_with(
-        state_with(states::state(kind), letter, slot, value),
-        also,
-        at,
-        other,
-    );
-    let table = state.table;
-    field(b"server ", kind as u64);
-    edit(letter, slot, value);
+    starts(kind, letter, slot, value);
     edit(also, at, other);
-    text(b":");
-    state_calls(state);
-    table_calls(table);
-    text(b"\n");
+    answers(
+        state_with(edited(kind, letter, slot, value), also, at, other),
+        true,
+    );
 }
 
 // Requests of each work, where so many wait.
 fn request_case(kind: u32, waiting: u32, work: u32) {
-    let state = state_with(states::state(kind), b'q', 0, waiting);
-    field(b"server ", kind as u64);
-    edit(b'q', 0, waiting);
+    starts(kind, b'q', 0, waiting);
     field(b" work ", work as u64);
-    text(b":");
-    print::moved(b" request ", scheduler::request(state, 4294967295, work));
+    request_call(
+        b": request ",
+        edited(kind, b'q', 0, waiting),
+        4294967295,
+        work,
+    );
     text(b"\n");
 }
 
 // ---- a case for each value
 
-fn state_cases(kind: u32, letter: u8, slot: usize, values: &[u32]) {
+fn cases(kind: u32, letter: u8, slot: usize, of_table: bool, values: &[u32]) {
     let mut i: usize = 0;
     while i < values.len() {
-        state_case(kind, letter, slot, values[i]);
-        i += 1;
-    }
-}
-
-fn table_cases(kind: u32, letter: u8, slot: usize, values: &[u32]) {
-    let mut i: usize = 0;
-    while i < values.len() {
-        table_case(kind, letter, slot, values[i]);
+        case(kind, letter, slot, values[i], of_table);
         i += 1;
     }
 }
@@ -106,28 +100,25 @@ fn request_cases(kind: u32, waiting: u32, works: &[u32]) {
 
 // ---- the limits of a table
 
-// A task in use has 1 ≤ e ≤ D ≤ p ≤ 60,000 and f ≤ 60,000. Task 0 stands at 1, 10, 3, 8.
-fn first_task(kind: u32) {
-    table_cases(kind, b'f', 0, &[0, 60000, 60001, 4294967295]);
-    table_cases(kind, b'p', 0, &[0, 7, 8, 60000, 60001]);
-    table_cases(kind, b'e', 0, &[0, 1, 2, 8, 9]);
-    table_cases(kind, b'D', 0, &[0, 2, 3, 10, 11]);
-}
-
-// The last task in use stands at 0, 20, 4, 20; the slot after it is not looked at.
-fn last_task(kind: u32) {
-    table_cases(kind, b'f', 1, &[60000, 60001]);
-    table_cases(kind, b'e', 1, &[0, 4, 20, 21]);
-    table_cases(kind, b'D', 1, &[3, 4, 20, 21]);
-    table_cases(kind, b'e', 2, &[0, 9]);
+// A task in use has 1 ≤ e ≤ D ≤ p ≤ 60,000 and f ≤ 60,000. Task 0 stands at 1, 10, 3, 8; task 1, the last in use, at 0, 20, 4, 20;
+// the slot after it is not looked at.
+fn tasks(kind: u32) {
+    cases(kind, b'f', 0, true, &[0, 60000, 60001, 4294967295]);
+    cases(kind, b'p', 0, true, &[0, 7, 8, 60000, 60001]);
+    cases(kind, b'e', 0, true, &[0, 1, 2, 8, 9]);
+    cases(kind, b'D', 0, true, &[0, 2, 3, 10, 11]);
+    cases(kind, b'f', 1, true, &[60000, 60001]);
+    cases(kind, b'e', 1, true, &[0, 4, 20, 21]);
+    cases(kind, b'D', 1, true, &[3, 4, 20, 21]);
+    cases(kind, b'e', 2, true, &[0, 9]);
 }
 
 fn server(kind: u32) {
-    table_cases(kind, b'n', 0, &[0, 1, 2, 3, 16, 17, 4294967295]);
-    table_cases(kind, b'k', 0, &[0, 1, 2, 3, 4, 5, 4294967295]);
-    table_cases(kind, b's', 0, &[0, 1, 2, 3]);
-    table_cases(kind, b'P', 0, &[0, 3, 4, 60000, 60001]);
-    table_cases(kind, b'B', 0, &[0, 1, 2, 3, 10, 11]);
+    cases(kind, b'n', 0, true, &[0, 1, 2, 3, 16, 17, 4294967295]);
+    cases(kind, b'k', 0, true, &[0, 1, 2, 3, 4, 5, 4294967295]);
+    cases(kind, b's', 0, true, &[0, 1, 2, 3]);
+    cases(kind, b'P', 0, true, &[0, 3, 4, 60000, 60001]);
+    cases(kind, b'B', 0, true, &[0, 1, 2, 3, 10, 11]);
 }
 
 // 1 before 2, 2 before 3, and the first bad index of two.
@@ -143,33 +134,27 @@ fn table_orders(kind: u32) {
 // ---- the limits of a state
 
 fn progress(kind: u32) {
-    state_cases(kind, b'l', 0, &[0, 3, 4]);
-    state_cases(kind, b'l', 1, &[0, 4, 5, 4294967295]);
-    state_cases(kind, b'l', 2, &[0, 4294967295]);
-    state_cases(kind, b'c', 0, &[99, 100, 3999999999, 4000000000]);
-    state_cases(kind, b'c', 0, &[4000000001, 4294967295]);
-}
-
-fn server_state(kind: u32) {
-    state_cases(kind, b'b', 0, &[0, 1, 4, 5]);
-    state_cases(kind, b't', 0, &[0, 100, 101]);
-    state_cases(kind, b'g', 0, &[0, 100, 101]);
-    state_cases(kind, b'r', 0, &[100, 4000060000, 4000060001]);
+    cases(kind, b'l', 0, false, &[0, 3, 4]);
+    cases(kind, b'l', 1, false, &[0, 4, 5, 4294967295]);
+    cases(kind, b'l', 2, false, &[0, 4294967295]);
+    cases(kind, b'c', 0, false, &[99, 100, 3999999999, 4000000000]);
+    cases(kind, b'c', 0, false, &[4000000001, 4294967295]);
+    cases(kind, b'b', 0, false, &[0, 1, 4, 5]);
+    cases(kind, b't', 0, false, &[0, 100, 101]);
+    cases(kind, b'g', 0, false, &[0, 100, 101]);
+    cases(kind, b'r', 0, false, &[100, 4000060000, 4000060001]);
 }
 
 // Slots 0 to 2 are in use, slot 3 is not.
 fn queue(kind: u32) {
-    state_cases(kind, b'q', 0, &[0, 1, 63, 64, 65, 4294967295]);
-    state_cases(kind, b'w', 0, &[0, 1, 60000, 60001]);
-    state_cases(kind, b'w', 2, &[0, 60000, 60001]);
-    state_cases(kind, b'w', 3, &[0, 60001]);
-}
-
-fn arrivals(kind: u32) {
-    state_cases(kind, b'a', 0, &[0, 100, 101]);
-    state_cases(kind, b'a', 2, &[100, 101]);
-    state_cases(kind, b'a', 3, &[101]);
-    state_cases(kind, b'i', 0, &[0, 4294967295]);
+    cases(kind, b'q', 0, false, &[0, 1, 63, 64, 65, 4294967295]);
+    cases(kind, b'w', 0, false, &[0, 1, 60000, 60001]);
+    cases(kind, b'w', 2, false, &[0, 60000, 60001]);
+    cases(kind, b'w', 3, false, &[0, 60001]);
+    cases(kind, b'a', 0, false, &[0, 100, 101]);
+    cases(kind, b'a', 2, false, &[100, 101]);
+    cases(kind, b'a', 3, false, &[101]);
+    cases(kind, b'i', 0, false, &[0, 4294967295]);
 }
 
 // 11 before 6.
@@ -189,25 +174,14 @@ fn requests(kind: u32) {
     request_cases(kind, 65, &[0, 1]);
 }
 
-fn table_limits(kind: u32) {
-    first_task(kind);
-    last_task(kind);
+fn limits(kind: u32) {
+    tasks(kind);
     server(kind);
     table_orders(kind);
-}
-
-fn state_limits(kind: u32) {
     progress(kind);
-    server_state(kind);
     queue(kind);
-    arrivals(kind);
     state_orders(kind);
     requests(kind);
-}
-
-fn limits(kind: u32) {
-    table_limits(kind);
-    state_limits(kind);
 }
 
 fn main() {

@@ -1,4 +1,5 @@
 // Answers as text on standard output. A call's answer is document 01's number of the refusal, 0 for none, with the index of a 2.
+use crate::digest::bit;
 use crate::digest::digest;
 use crate::digest::mix_all;
 use admission::Admission;
@@ -24,26 +25,13 @@ pub fn field(word: &[u8], number: u64) {
 }
 
 fn flag(word: &[u8], b: bool) {
-    if b {
-        field(word, 1);
-    } else {
-        field(word, 0);
-    }
+    field(word, bit(b) as u64);
 }
 
 fn refusal(word: &[u8], r: Refusal) {
-    match r {
-        Refusal::TaskCount => field(word, 1),
-        Refusal::BadTask(i) => {
-            field(word, 2);
-            field(b" at ", i as u64);
-        }
-        Refusal::BadServer => field(word, 3),
-        Refusal::BadWork => field(word, 4),
-        Refusal::QueueFull => field(word, 5),
-        Refusal::ClockSpent => field(word, 6),
-        Refusal::ShortRecord => field(word, 10),
-        Refusal::UnfitState => field(word, 11),
+    field(word, r.number() as u64);
+    if let Refusal::BadTask(i) = r {
+        field(b" at ", i as u64);
     }
 }
 
@@ -54,16 +42,24 @@ pub fn checked(word: &[u8], c: Checked) {
     }
 }
 
-pub fn fit(s: State) {
-    flag(b" fit ", s.fit());
+// The number of a state that a call hands back.
+fn handed(s: State) {
     field(b" state ", digest(s));
+}
+
+fn answered(word: &[u8], answer: Checked, after: State) {
+    checked(word, answer);
+    handed(after);
+}
+
+pub fn fit(s: State) {
+    flag(b": fit ", s.fit());
+    handed(s);
 }
 
 pub fn set_up(s: SetUp) {
     let answer = s.answer;
-    let after = s.state;
-    checked(b"; set-up ", answer);
-    field(b" state ", digest(after));
+    answered(b"; set-up ", answer, s.state);
 }
 
 pub fn admission(a: Admission) {
@@ -93,6 +89,13 @@ fn finish(f: Finish) {
     }
 }
 
+fn ran(o: Occupant, drops: u32, f: Finish) {
+    field(b"; tick ", 0);
+    occupant(o);
+    field(b" drops ", drops as u64);
+    finish(f);
+}
+
 fn tick_answer(a: TickAnswer) {
     match a {
         TickAnswer::Refused(r) => refusal(b"; tick ", r),
@@ -100,27 +103,19 @@ fn tick_answer(a: TickAnswer) {
             occupant: o,
             drops,
             finish: f,
-        } => {
-            field(b"; tick ", 0);
-            occupant(o);
-            field(b" drops ", drops as u64);
-            finish(f);
-        }
+        } => ran(o, drops, f),
     }
 }
 
 pub fn ticked(t: Ticked) {
     let answer = t.answer;
-    let after = t.state;
     tick_answer(answer);
-    field(b" state ", digest(after));
+    handed(t.state);
 }
 
 pub fn moved(word: &[u8], m: Moved) {
     let answer = m.answer;
-    let after = m.state;
-    checked(word, answer);
-    field(b" state ", digest(after));
+    answered(word, answer, m.state);
 }
 
 // The field that a case changes, and the value that it puts there.

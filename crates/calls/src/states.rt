@@ -105,7 +105,7 @@ fn queue() -> Queue {
     Queue { requests, n: 3 }
 }
 
-pub fn state(kind: u32) -> State {
+fn state(kind: u32) -> State {
     let table = table(kind);
     let progress = progress(kind);
     let queue = queue();
@@ -116,121 +116,97 @@ pub fn state(kind: u32) -> State {
     }
 }
 
-// A field that the table does not have changes nothing, here and below.
-fn table_with(table: Table, letter: u8, slot: usize, value: u32) -> Table {
+// A field that a struct does not have changes nothing, here and below.
+fn task_with(mut task: Task, letter: u8, value: u32) -> Task {
+    match letter {
+        b'f' => task.phase = value,
+        b'p' => task.period = value,
+        b'e' => task.exec = value,
+        b'D' => task.deadline = value,
+        _ => {}
+    }
+    task
+}
+
+fn server_with(mut server: Server, letter: u8, value: u32) -> Server {
+    match letter {
+        b'k' => server.kind = value,
+        b's' => server.place = value,
+        b'P' => server.period = value,
+        b'B' => server.budget = value,
+        _ => {}
+    }
+    server
+}
+
+fn table_with(mut table: Table, letter: u8, slot: usize, value: u32) -> Table {
     if 16 <= slot {
         return table;
     }
-    let mut next = table;
-    match letter {
-        b'f' => {
-            next.tasks[slot].phase = value;
-            next
-        }
-        b'p' => {
-            next.tasks[slot].period = value;
-            next
-        }
-        b'e' => {
-            next.tasks[slot].exec = value;
-            next
-        }
-        b'D' => {
-            next.tasks[slot].deadline = value;
-            next
-        }
-        b'n' => {
-            next.n = value;
-            next
-        }
-        b'k' => {
-            next.server.kind = value;
-            next
-        }
-        b's' => {
-            next.server.place = value;
-            next
-        }
-        b'P' => {
-            next.server.period = value;
-            next
-        }
-        b'B' => {
-            next.server.budget = value;
-            next
-        }
-        _ => table,
+    let task = table.tasks[slot];
+    table.tasks[slot] = task_with(task, letter, value);
+    table.server = server_with(table.server, letter, value);
+    if letter == b'n' {
+        table.n = value;
     }
+    table
 }
 
-fn progress_with(progress: Progress, letter: u8, slot: usize, value: u32) -> Progress {
+fn server_state_with(mut server: ServerState, letter: u8, value: u32) -> ServerState {
+    match letter {
+        b'b' => server.budget = value,
+        b't' => server.sporadic.tr = value,
+        b'g' => server.sporadic.begin = value,
+        b'r' => server.sporadic.nr = value,
+        _ => {}
+    }
+    server
+}
+
+fn progress_with(mut progress: Progress, letter: u8, slot: usize, value: u32) -> Progress {
     if 16 <= slot {
         return progress;
     }
-    let mut next = progress;
+    progress.server = server_state_with(progress.server, letter, value);
     match letter {
-        b'l' => {
-            next.left[slot] = value;
-            next
-        }
-        b'b' => {
-            next.server.budget = value;
-            next
-        }
-        b't' => {
-            next.server.sporadic.tr = value;
-            next
-        }
-        b'g' => {
-            next.server.sporadic.begin = value;
-            next
-        }
-        b'r' => {
-            next.server.sporadic.nr = value;
-            next
-        }
-        b'c' => {
-            next.clock = value;
-            next
-        }
-        _ => progress,
+        b'l' => progress.left[slot] = value,
+        b'c' => progress.clock = value,
+        _ => {}
     }
+    progress
 }
 
-fn queue_with(queue: Queue, letter: u8, slot: usize, value: u32) -> Queue {
+fn request_with(mut request: Request, letter: u8, value: u32) -> Request {
+    match letter {
+        b'i' => request.id = value,
+        b'w' => request.work = value,
+        b'a' => request.arrival = value,
+        _ => {}
+    }
+    request
+}
+
+fn queue_with(mut queue: Queue, letter: u8, slot: usize, value: u32) -> Queue {
     if 64 <= slot {
         return queue;
     }
-    let mut next = queue;
-    match letter {
-        b'i' => {
-            next.requests[slot].id = value;
-            next
-        }
-        b'w' => {
-            next.requests[slot].work = value;
-            next
-        }
-        b'a' => {
-            next.requests[slot].arrival = value;
-            next
-        }
-        b'q' => {
-            next.n = value;
-            next
-        }
-        _ => queue,
+    let request = queue.requests[slot];
+    queue.requests[slot] = request_with(request, letter, value);
+    if letter == b'q' {
+        queue.n = value;
     }
+    queue
 }
 
 // The state with a field put to a value.
-pub fn state_with(state: State, letter: u8, slot: usize, value: u32) -> State {
-    let table = state.table;
-    let progress = state.progress;
-    let queue = state.queue;
-    State {
-        table: table_with(table, letter, slot, value),
-        progress: progress_with(progress, letter, slot, value),
-        queue: queue_with(queue, letter, slot, value),
-    }
+pub fn state_with(mut state: State, letter: u8, slot: usize, value: u32) -> State {
+    state.table = table_with(state.table, letter, slot, value);
+    state.progress = progress_with(state.progress, letter, slot, value);
+    state.queue = queue_with(state.queue, letter, slot, value);
+    state
+}
+
+// The state that the cases of a kind start from, with a field put to a value.
+pub fn edited(kind: u32, letter: u8, slot: usize, value: u32) -> State {
+    state_with(state(kind), letter, slot, value)
 }

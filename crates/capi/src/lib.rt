@@ -2,7 +2,7 @@
 // its arguments to the library's own call and turns the answer into document 01's numbers. include/pilqandur.h is the other side.
 ghost use mathlib.Core.Path.{_≡_};
 ghost use lib.ListN.{length};
-ghost use Rattle.table.specs.Refusal.{number, value, numberOf, valueOf};
+ghost use Rattle.table.specs.Refusal.{value, numberOf, valueOf};
 ghost use Rattle.table.specs.State.{setUpCall};
 ghost use Rattle.admission.specs.Admission.{admissionCall};
 ghost use Rattle.rules.specs.Calls.{entryBy, requestCall, tickCall, runCall, runList};
@@ -69,21 +69,6 @@ struct Done {
 
 // ---- enums as numbers
 
-fn number_of_refusal(refusal: Refusal) -> u32
-    ensures { λ r. ⌜ r ≡ number refusal ⌝ }
-{
-    match refusal {
-        Refusal::TaskCount => 1,
-        Refusal::BadTask(_) => 2,
-        Refusal::BadServer => 3,
-        Refusal::BadWork => 4,
-        Refusal::QueueFull => 5,
-        Refusal::ClockSpent => 6,
-        Refusal::ShortRecord => 10,
-        Refusal::UnfitState => 11,
-    }
-}
-
 fn value_of_refusal(refusal: Refusal) -> u32
     ensures { λ r. ⌜ r ≡ value refusal ⌝ }
 {
@@ -104,7 +89,7 @@ fn number_of(answer: Checked) -> u32
 {
     match answer {
         Checked::Passed => 0,
-        Checked::Refused(refusal) => number_of_refusal(refusal),
+        Checked::Refused(refusal) => refusal.number(),
     }
 }
 
@@ -199,7 +184,7 @@ fn tick_result_by(answer: TickAnswer, state: State) -> TickResult
             finish,
         } => ran_result(entry_by(occupant, drops), done_by(finish), state),
         TickAnswer::Refused(refusal) => TickResult {
-            number: number_of_refusal(refusal),
+            number: refusal.number(),
             kind: 0,
             id: 0,
             drops: 0,

@@ -92,7 +92,7 @@ fn asked_line(out: &mut [u8], at: usize, t: u32, id: u32, answer: Checked) -> us
     match answer {
         Checked::Passed => at,
         Checked::Refused(r) => {
-            let n = plan::call_number(r);
+            let n = r.number();
             text::write_line(out, at, text::refused_line(t, id, n))
         }
     }

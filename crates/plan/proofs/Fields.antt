@@ -43,6 +43,39 @@ module _ (s : List ℕ) (a e : ℕ) (found : e ≡ a + upTo 44 (drop a s)) (f : 
   unfolding onward
   field-wrong q = wrong-at (ltb e (length s)) refl q
 
+-- `whole` reads exactly one number more than `rest` does: the first number with what `rest` reads of the others
+pub record OneMore {A B : Type 0} (whole : Numbers → A) (rest : Numbers → B) (and : ℕ → B → A) (none : A) : Type 0 where
+  pub first : (v : ℕ) (ms : Numbers) → whole (push v ms) ≡ and v (rest ms)
+  pub alone : (v : ℕ) → whole (are (v ∷ [])) ≡ none
+  pub unread : whole wrong ≡ none
+
+two-first : (v : ℕ) (ms : Numbers) → twoOf (push v ms) ≡ andTwo v (oneOf ms)
+unfolding oneOf twoOf
+two-first v wrong = refl
+two-first v (are vs) = refl
+
+pub two : OneMore twoOf oneOf andTwo Two.Wrong
+unfolding twoOf
+two = record { first = two-first; alone = λ v. refl; unread = refl }
+
+three-first : (v : ℕ) (ms : Numbers) → threeOf (push v ms) ≡ andThree v (twoOf ms)
+unfolding twoOf threeOf
+three-first v wrong = refl
+three-first v (are vs) = refl
+
+pub three : OneMore threeOf twoOf andThree Three.Wrong
+unfolding threeOf
+three = record { first = three-first; alone = λ v. refl; unread = refl }
+
+four-first : (v : ℕ) (ms : Numbers) → fourOf (push v ms) ≡ andFour v (threeOf ms)
+unfolding threeOf fourOf
+four-first v wrong = refl
+four-first v (are vs) = refl
+
+pub four : OneMore fourOf threeOf andFour Four.Wrong
+unfolding fourOf
+four = record { first = four-first; alone = λ v. refl; unread = refl }
+
 -- what a field that was read tells
 module _ (s : List ℕ) (r : Field) (ns : Numbers) (o : onward s r ns) where
   pub told-next : (v n : ℕ) → r ≡ Field.More v n → n ≤ length s
@@ -83,53 +116,16 @@ module _ (s : List ℕ) (r : Field) (ns : Numbers) (o : onward s r ns) where
   unfolding oneOf
   one-wrong e = sym (ap oneOf (told-wrong e))
 
-  two-push : (v : ℕ) (ms : Numbers) → twoOf (push v ms) ≡ andTwo v (oneOf ms)
-  unfolding oneOf twoOf
-  two-push v wrong = refl
-  two-push v (are vs) = refl
+  -- a reader of one number more
+  module _ {A B : Type 0} {whole : Numbers → A} {rest : Numbers → B} {and : ℕ → B → A} {none : A} (m : OneMore whole rest and none) where
+    pub then-more : (v n : ℕ) → r ≡ Field.More v n → (x y : B) → x ≡ rest (numbers (drop n s)) → x ≡ y → and v y ≡ whole ns
+    then-more v n e x y p q = sym (ap whole (told-more v n e) ∙ m .first v (numbers (drop n s)) ∙ ap (and v) (sym p ∙ q))
 
-  pub two-more : (v n : ℕ) → r ≡ Field.More v n → (x y : Number) → x ≡ oneOf (numbers (drop n s)) → x ≡ y → andTwo v y ≡ twoOf ns
-  two-more v n e x y p q = sym (ap twoOf (told-more v n e) ∙ two-push v (numbers (drop n s)) ∙ ap (andTwo v) (sym p ∙ q))
+    pub then-last : (v : ℕ) → r ≡ Field.Last v → none ≡ whole ns
+    then-last v e = sym (ap whole (told-last v e) ∙ m .alone v)
 
-  pub two-last : (v : ℕ) → r ≡ Field.Last v → Two.Wrong ≡ twoOf ns
-  unfolding twoOf
-  two-last v e = sym (ap twoOf (told-last v e))
-
-  pub two-wrong : r ≡ Field.Wrong → Two.Wrong ≡ twoOf ns
-  unfolding twoOf
-  two-wrong e = sym (ap twoOf (told-wrong e))
-
-  three-push : (v : ℕ) (ms : Numbers) → threeOf (push v ms) ≡ andThree v (twoOf ms)
-  unfolding twoOf threeOf
-  three-push v wrong = refl
-  three-push v (are vs) = refl
-
-  pub three-more : (v n : ℕ) → r ≡ Field.More v n → (x y : Two) → x ≡ twoOf (numbers (drop n s)) → x ≡ y → andThree v y ≡ threeOf ns
-  three-more v n e x y p q = sym (ap threeOf (told-more v n e) ∙ three-push v (numbers (drop n s)) ∙ ap (andThree v) (sym p ∙ q))
-
-  pub three-last : (v : ℕ) → r ≡ Field.Last v → Three.Wrong ≡ threeOf ns
-  unfolding threeOf
-  three-last v e = sym (ap threeOf (told-last v e))
-
-  pub three-wrong : r ≡ Field.Wrong → Three.Wrong ≡ threeOf ns
-  unfolding threeOf
-  three-wrong e = sym (ap threeOf (told-wrong e))
-
-  four-push : (v : ℕ) (ms : Numbers) → fourOf (push v ms) ≡ andFour v (threeOf ms)
-  unfolding threeOf fourOf
-  four-push v wrong = refl
-  four-push v (are vs) = refl
-
-  pub four-more : (v n : ℕ) → r ≡ Field.More v n → (x y : Three) → x ≡ threeOf (numbers (drop n s)) → x ≡ y → andFour v y ≡ fourOf ns
-  four-more v n e x y p q = sym (ap fourOf (told-more v n e) ∙ four-push v (numbers (drop n s)) ∙ ap (andFour v) (sym p ∙ q))
-
-  pub four-last : (v : ℕ) → r ≡ Field.Last v → Four.Wrong ≡ fourOf ns
-  unfolding fourOf
-  four-last v e = sym (ap fourOf (told-last v e))
-
-  pub four-wrong : r ≡ Field.Wrong → Four.Wrong ≡ fourOf ns
-  unfolding fourOf
-  four-wrong e = sym (ap fourOf (told-wrong e))
+    pub then-wrong : r ≡ Field.Wrong → none ≡ whole ns
+    then-wrong e = sym (ap whole (told-wrong e) ∙ m .unread)
 
 -- a line by its letter
 pub short : (s : List ℕ) → length s < 2 → Line.Bad ≡ lineOf s

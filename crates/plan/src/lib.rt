@@ -6,7 +6,6 @@ ghost use Rattle.plan.specs.Text.{upTo, numberOf};
 ghost use Rattle.plan.specs.Lines.{numbers, onward, oneOf, twoOf, threeOf, fourOf, lineOf, taskLine, serverLine, arrivalLine, runLine};
 ghost use Rattle.plan.specs.Refusal.{number};
 ghost use Rattle.plan.specs.Plan.{blank, freshReading, judged, withTask, moved, refusedPlan, closing, planOf, nextFrom};
-ghost use Rattle.table.specs.Refusal.{number as callNumber};
 use server::Server;
 use table::Checked;
 use table::Refusal;
@@ -507,22 +506,6 @@ pub fn check(plan: &[u8]) -> Plan
     finish(st, line)
 }
 
-// Document 01's number of a refusal that a call has.
-pub fn call_number(r: Refusal) -> u32
-    ensures { λ k. ⌜ k ≡ callNumber r ⌝ }
-{
-    match r {
-        Refusal::TaskCount => 1,
-        Refusal::BadTask(_) => 2,
-        Refusal::BadServer => 3,
-        Refusal::BadWork => 4,
-        Refusal::QueueFull => 5,
-        Refusal::ClockSpent => 6,
-        Refusal::ShortRecord => 10,
-        Refusal::UnfitState => 11,
-    }
-}
-
 // Document 01's number of a plan's refusal.
 pub fn refusal_number(r: PlanRefusal) -> u32
     ensures { λ k. ⌜ k ≡ number r ⌝ }
@@ -531,7 +514,7 @@ pub fn refusal_number(r: PlanRefusal) -> u32
         PlanRefusal::TooLong => 7,
         PlanRefusal::BadLine => 8,
         PlanRefusal::Misplaced => 9,
-        PlanRefusal::Call(q) => call_number(q),
+        PlanRefusal::Call(q) => q.number(),
     }
 }
 
@@ -553,30 +536,4 @@ pub fn next_arrival(plan: &[u8], from: usize) -> Next
         at = e + 1;
     }
     Next::Done
-}
-
-// "The plan reader keeps the lent bytes and a position."
-pub struct Reader<'a> {
-    pub src: &'a [u8],
-    pub at: usize,
-}
-
-pub fn start<'a>(src: &'a [u8]) -> Reader<'a>
-    ensures { λ r. ⌜ (r .src ≡ src .entry) × (r .at ≡ 0) ⌝ }
-{
-    Reader { src, at: 0 }
-}
-
-// The next A line from the reader's position on.
-pub fn following<'a>(r: Reader<'a>) -> Next
-    ensures { λ s. ⌜ s ≡ nextFrom (now (r .entry .src)) (r .entry .at) ⌝ }
-{
-    next_arrival(r.src, r.at)
-}
-
-// The reader at another position.
-pub fn onto<'a>(r: Reader<'a>, at: usize) -> Reader<'a>
-    ensures { λ q. ⌜ (q .src ≡ r .entry .src) × (q .at ≡ at) ⌝ }
-{
-    Reader { src: r.src, at }
 }

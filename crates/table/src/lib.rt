@@ -6,7 +6,7 @@ ghost use Rattle.lists.specs.Lists.{allWith};
 ghost use Rattle.lists.specs.Tests.{every};
 ghost use Rattle.table.specs.Limits.{taskFits, firstBad, budgetTests, backgroundTests, serverFits};
 ghost use mathlib.Core.Bool.{true};
-ghost use Rattle.table.specs.Refusal.{passed};
+ghost use Rattle.table.specs.Refusal.{number, passed};
 ghost use Rattle.table.specs.State.{freshState, tableCheck, leftFits, serverStateFits, fit, setUpCall};
 use queue::Queue;
 use server::Server;
@@ -66,6 +66,24 @@ pub enum Refusal {
     ClockSpent,
     ShortRecord,
     UnfitState,
+}
+
+impl Refusal {
+    // Document 01's number of a refusal.
+    pub fn number(self) -> u32
+        ensures { λ r. ⌜ r ≡ number self ⌝ }
+    {
+        match self {
+            Refusal::TaskCount => 1,
+            Refusal::BadTask(_) => 2,
+            Refusal::BadServer => 3,
+            Refusal::BadWork => 4,
+            Refusal::QueueFull => 5,
+            Refusal::ClockSpent => 6,
+            Refusal::ShortRecord => 10,
+            Refusal::UnfitState => 11,
+        }
+    }
 }
 
 // The answer of a call that only passes or refuses.

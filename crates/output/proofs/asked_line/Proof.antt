@@ -15,8 +15,8 @@ enum-told c = search needs
 enum-known-answer : tie.Need-enum-known-answer
 enum-known-answer c = search needs
 
-call-number-requires : tie.Need-call-number-requires
-call-number-requires c κs = search needs
+number-requires : tie.Need-number-requires
+number-requires c κs = search needs
 
 refused-line-requires : tie.Need-refused-line-requires
 refused-line-requires c κs = search needs
@@ -34,7 +34,7 @@ returns-2 : tie.Need-returns-2
 returns-2 c = (
   omega arith,
   wrote-same (sym (ap (askedText (c .before .before .before .before .before .before .before .before .before .before .args .t) (c .before .before .before .before .before .before .before .before .before .before .args .id)) (c .before .before .before .before .before .before .before .answer .given .1)))
-      (line-in _ _ (omega arith) (c .before .before .write-line .ensures .1) (c .before .before .before .refused-line .ensures ∙ ap (refusedLine (c .before .before .before .before .before .before .before .before .before .before .args .t) (c .before .before .before .before .before .before .before .before .before .before .args .id)) (c .before .before .before .before .before .call-number .ensures))),
+      (line-in _ _ (omega arith) (c .before .before .write-line .ensures .1) (c .before .before .before .refused-line .ensures ∙ ap (refusedLine (c .before .before .before .before .before .before .before .before .before .before .args .t) (c .before .before .before .before .before .before .before .before .before .before .args .id)) (c .before .before .before .before .before .number .ensures))),
 )
 
 pub asked-line-spec : {M : Type 1} → statement M
@@ -43,7 +43,7 @@ asked-line-spec =
     (tie.spec
     enum-told
     enum-known-answer
-    call-number-requires
+    number-requires
     refused-line-requires
     write-line-requires
     returns

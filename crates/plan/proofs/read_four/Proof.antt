@@ -1,5 +1,5 @@
 -- `plan::read_four` meets its contract: one field, then exactly three.
-use Rattle.plan.proofs.Fields.{four-more, four-last, four-wrong, told-next}
+use Rattle.plan.proofs.Fields.{four, told-next, then-more, then-last, then-wrong}
 use borrow.Author.Needs.{needs}
 use Rattle.plan.proofs.read_four.Statement.{statement}
 use Rattle.plan.proofs.read_four.Tie as tie
@@ -26,16 +26,16 @@ enum-told-3 : tie.Need-enum-told-3
 enum-told-3 c = search needs
 
 returns : tie.Need-returns
-returns c = four-more _ _ _ (c .before .before .before .before .before .before .before .read-field .ensures) _ _ (c .before .before .before .before .before .value .given .1) _ _ (c .before .before .before .read-three .ensures) (c .before .b .given .1)
+returns c = then-more _ _ _ (c .before .before .before .before .before .before .before .read-field .ensures) four _ _ (c .before .before .before .before .before .value .given .1) _ _ (c .before .before .before .read-three .ensures) (c .before .b .given .1)
 
 returns-2 : tie.Need-returns-2
-returns-2 c = four-more _ _ _ (c .before .before .before .before .before .before .read-field .ensures) _ _ (c .before .before .before .before .value .given .1) _ _ (c .before .before .read-three .ensures) (c .enum-told .given .1)
+returns-2 c = then-more _ _ _ (c .before .before .before .before .before .before .read-field .ensures) four _ _ (c .before .before .before .before .value .given .1) _ _ (c .before .before .read-three .ensures) (c .enum-told .given .1)
 
 returns-3 : tie.Need-returns-3
-returns-3 c = four-last _ _ _ (c .before .before .read-field .ensures) _ (c .enum-told2 .given .1)
+returns-3 c = then-last _ _ _ (c .before .before .read-field .ensures) four _ (c .enum-told2 .given .1)
 
 returns-4 : tie.Need-returns-4
-returns-4 c = four-wrong _ _ _ (c .before .before .read-field .ensures) (c .enum-told3 .given .1)
+returns-4 c = then-wrong _ _ _ (c .before .before .read-field .ensures) four (c .enum-told3 .given .1)
 
 pub read-four-spec : {M : Type 1} → statement M
 read-four-spec =

@@ -1,5 +1,5 @@
 -- `plan::read_two` meets its contract: one field, then exactly one.
-use Rattle.plan.proofs.Fields.{two-more, two-last, two-wrong, told-next}
+use Rattle.plan.proofs.Fields.{two, told-next, then-more, then-last, then-wrong}
 use borrow.Author.Needs.{needs}
 use Rattle.plan.proofs.read_two.Statement.{statement}
 use Rattle.plan.proofs.read_two.Tie as tie
@@ -26,16 +26,16 @@ enum-told-3 : tie.Need-enum-told-3
 enum-told-3 c = search needs
 
 returns : tie.Need-returns
-returns c = two-more _ _ _ (c .before .before .before .before .before .before .before .read-field .ensures) _ _ (c .before .before .before .before .before .value .given .1) _ _ (c .before .before .before .read-one .ensures) (c .before .b .given .1)
+returns c = then-more _ _ _ (c .before .before .before .before .before .before .before .read-field .ensures) two _ _ (c .before .before .before .before .before .value .given .1) _ _ (c .before .before .before .read-one .ensures) (c .before .b .given .1)
 
 returns-2 : tie.Need-returns-2
-returns-2 c = two-more _ _ _ (c .before .before .before .before .before .before .read-field .ensures) _ _ (c .before .before .before .before .value .given .1) _ _ (c .before .before .read-one .ensures) (c .enum-told .given .1)
+returns-2 c = then-more _ _ _ (c .before .before .before .before .before .before .read-field .ensures) two _ _ (c .before .before .before .before .value .given .1) _ _ (c .before .before .read-one .ensures) (c .enum-told .given .1)
 
 returns-3 : tie.Need-returns-3
-returns-3 c = two-last _ _ _ (c .before .before .read-field .ensures) _ (c .enum-told2 .given .1)
+returns-3 c = then-last _ _ _ (c .before .before .read-field .ensures) two _ (c .enum-told2 .given .1)
 
 returns-4 : tie.Need-returns-4
-returns-4 c = two-wrong _ _ _ (c .before .before .read-field .ensures) (c .enum-told3 .given .1)
+returns-4 c = then-wrong _ _ _ (c .before .before .read-field .ensures) two (c .enum-told3 .given .1)
 
 pub read-two-spec : {M : Type 1} → statement M
 read-two-spec =

@@ -19,8 +19,8 @@ mul-task c = search needs
 array-copy-out-task : tie.Need-array-copy-out-task Inv-loop μ-loop
 array-copy-out-task c = search needs
 
-mix-task-requires : tie.Need-mix-task-requires Inv-loop μ-loop
-mix-task-requires c κs = search needs
+mix-four-requires : tie.Need-mix-four-requires Inv-loop μ-loop
+mix-four-requires c κs = search needs
 
 add-i : tie.Need-add-i Inv-loop μ-loop
 add-i c = search needs
@@ -43,7 +43,7 @@ mix-tasks-spec =
     loop-holds
     mul-task
     array-copy-out-task
-    mix-task-requires
+    mix-four-requires
     add-i
     loop-less
     loop-again

@@ -1,6 +1,6 @@
 -- When a task is due: what the ticks since its release say of the tick, that no tick before the next due one is due, and that a calm
 -- tick leaves the tasks as they are.
-use Prim.Native.Nat.{ℕ, zero, suc, _+_, _-_, _*_, _/_, _%_, _≤_, _<_}
+use Prim.Native.Nat.{ℕ, zero, suc, _+_, _-_, _*_, _/_, _≤_, _<_}
 use native.Mathlib.Omega.{arith}
 use native.Mathlib.Nat.{div-add-mod', mod-lt, lt-of-mul-lt-mul-right}
 use mathlib.Core.Path.{_≡_, refl, sym, ap, ap₂, subst, _∙_}
@@ -8,8 +8,8 @@ use mathlib.Core.Bool.{Bool, true, false, cond, _&&_}
 use mathlib.Core.List.{List, [], _∷_}
 use lib.ListN.{length, take, getD}
 use lib.Dec.{leb, ltb, eqb}
-use borrow.Author.Tests.{lt-leb, le-leb, lt-ltb, le-ltb, ltb-true, ltb-false, leb-true, leb-false, eqb-true, eqb-false}
-use Rattle.lists.specs.Lists.{count, zipWith, overlay-take}
+use borrow.Author.Tests.{lt-leb, lt-ltb, le-ltb, ltb-true, ltb-false, leb-true, leb-false, eqb-true, eqb-false}
+use Rattle.lists.specs.Lists.{overlay-take}
 use Rattle.lists.specs.Loops.{and-false}
 use Rattle.lists.specs.Tests.{never, and-split}
 use Rattle.lists.specs.Time.{due}

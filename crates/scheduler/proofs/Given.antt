@@ -2,20 +2,20 @@
 use Prim.Native.Nat.{ℕ, zero, suc, _+_, _-_, _≤_, _<_}
 use native.Mathlib.Omega.{arith}
 use native.Mathlib.Numerals.{add-one}
-use mathlib.Core.Path.{_≡_, refl, sym, ap, subst, _∙_}
+use mathlib.Core.Path.{_≡_, refl, sym, ap, _∙_}
 use mathlib.Core.Bool.{Bool, true, false, cond, not, _&&_}
-use mathlib.Core.List.{List, [], _∷_, _++_}
-use lib.ListN.{length, take, drop, getD, set, length-set, take-append-drop}
+use mathlib.Core.List.{List, [], _∷_}
+use lib.ListN.{length, take, getD, set, length-set, take-append-drop}
 use lib.Seq.{length-take-le}
-use lib.Dec.{leb, ltb}
-use borrow.Author.Tests.{le-leb, lt-leb, lt-ltb, leb-true, leb-false}
-use Rattle.lists.specs.Lists.{overlay, overlay-take}
+use lib.Dec.{leb}
+use borrow.Author.Tests.{le-leb, leb-false}
+use Rattle.lists.specs.Lists.{overlay}
 use Rattle.lists.specs.Tests.{never}
 use Rattle.queue.specs.declared.Request.{Request}
 use Rattle.queue.specs.declared.Queue.{Queue}
-use Rattle.queue.specs.Queue.{waits, headId, served, waitingOf, queueWith}
+use Rattle.queue.specs.Queue.{waits, waitingOf}
 use Rattle.queue.specs.Steps.{servedQueue}
-use Rattle.queue.specs.Laws.{waits-count, head-id, served-empties}
+use Rattle.queue.specs.Laws.{served-empties}
 use Rattle.scheduler.specs.declared.Head.{Head}
 use Rattle.scheduler.specs.Parts.{ends, headOf, noRequest, headWork, worked, headLess, shown, givenAfter}
 

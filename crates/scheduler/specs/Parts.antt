@@ -135,10 +135,11 @@ seenOf t h turn above busy = record {
   emptied = cond (toRequest turn) (h .last) (not (h .waits));
 }
 
--- what a tick decides: all but the queue
+-- how long the calm is known to last after the tick of a state
 abbrev pub calmOf : State → ℕ → ℕ
 calmOf s c = calmAfter (s .progress .clock) (s .table .tasks) (s .table .n) c
 
+-- what a tick decides: all but the queue
 abbrev pub decidedBy : State → ℕ → Decision
 decidedBy s c = record {
   progress = stateAfter s .progress;
@@ -171,6 +172,7 @@ noRequest = record { id = 0; work = 0; arrival = 0 }
 abbrev pub headWork : Queue → ℕ
 headWork q = getD (q .requests) 0 noRequest .work
 
+-- a request after g ticks of service
 abbrev pub worked : ℕ → Request → Request
 worked g r = record { id = r .id; work = r .work - g; arrival = r .arrival }
 

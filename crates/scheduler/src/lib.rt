@@ -1,12 +1,12 @@
 // The calls that move a state: a request, a tick, a run of ticks.
-ghost use Prim.Native.Nat.{ℕ, _+_, _<_, _≤_};
-ghost use lib.ListN.{length, take, getD};
+ghost use Prim.Native.Nat.{_+_, _<_, _≤_};
+ghost use lib.ListN.{length, take};
 ghost use mathlib.Core.Bool.{true};
 ghost use mathlib.Core.Path.{_≡_};
 ghost use Rattle.server.specs.Kind.{kindOf};
 ghost use Rattle.queue.specs.Queue.{waitingOf, finished};
 ghost use Rattle.queue.specs.Steps.{servedQueue};
-ghost use Rattle.table.specs.Facts.{TableFacts, TaskLimits, noTask};
+ghost use Rattle.table.specs.Facts.{TableFacts, TaskLimits};
 ghost use Rattle.rules.specs.Tick.{choose, firstOpen, idleTurn, workedTasks};
 ghost use Rattle.rules.specs.Calls.{requestCall, ticked, ranBy, tickCall, runCall, runList};
 ghost use Rattle.rules.specs.Laws.{Sized};
@@ -37,7 +37,7 @@ struct Stepped {
     next: u32,
 }
 
-// The same of every task in use: the ticks before `calm` are calm, no release and no deadline falls in them.
+// The same of every task in use: no release and no deadline falls in the ticks after this one that come before `calm`.
 struct Opened {
     left: [u32; Table::MAX_TASKS as usize],
     drops: u32,
@@ -113,29 +113,24 @@ fn lesser(a: u32, b: u32) -> u32
 }
 
 // Steps 1 and 2 of the tasks in use.
-fn open_tasks(table: Table, left: [u32; Table::MAX_TASKS as usize], t: u32) -> Opened
+fn open_tasks(table: Table, mut left: [u32; Table::MAX_TASKS as usize], t: u32) -> Opened
     requires { ⌜ TableFacts table × (t < 4000000000) ⌝ }
     ensures { λ r. ⌜ r ≡ openedBy t (table .tasks) left (table .n) (soonest t (table .tasks) (table .n)) ⌝ }
 {
-    let mut now_left = left;
     let mut drops: u32 = 0;
     let mut calm = Table::LAST_CLOCK;
     let mut i: usize = 0;
     let end = table.n as usize;
     while i < end {
         let task = table.tasks[i];
-        let was = now_left[i];
+        let was = left[i];
         let s = step_task(t, task, was);
-        now_left[i] = s.left;
+        left[i] = s.left;
         drops += s.drops;
         calm = lesser(calm, s.next);
         i += 1;
     }
-    Opened {
-        left: now_left,
-        drops,
-        calm,
-    }
+    Opened { left, drops, calm }
 }
 
 // The same, passed over in a calm tick.
@@ -318,7 +313,7 @@ fn to_request(turn: Turn) -> bool
 
 // What is left of the tasks after a task's tick of work.
 fn work_tasks(
-    left: [u32; Table::MAX_TASKS as usize],
+    mut left: [u32; Table::MAX_TASKS as usize],
     turn: Turn,
 ) -> [u32; Table::MAX_TASKS as usize]
     ensures { λ r. ⌜ r ≡ workedTasks turn left ⌝ }
@@ -334,9 +329,8 @@ fn work_tasks(
             if was == 0 {
                 return left;
             }
-            let mut next = left;
-            next[at] = was - 1;
-            next
+            left[at] = was - 1;
+            left
         }
         Turn::Budget => left,
         Turn::Spare => left,

@@ -2,6 +2,7 @@
 // an accepted call one with the number of the state that it has to hand back.
 use queue::Queue;
 use queue::Request;
+use rules::Entry;
 use server::ServerState;
 use table::Progress;
 use table::State;
@@ -95,6 +96,22 @@ fn mix_requests(h: u64, requests: [Request; 64]) -> u64 {
 fn mix_queue(h: u64, queue: Queue) -> u64 {
     let requests = queue.requests;
     mix_requests(mix(h, queue.n), requests)
+}
+
+fn mix_entry(h: u64, entry: Entry) -> u64 {
+    mix(mix(mix(h, entry.kind), entry.id), entry.drops)
+}
+
+// One number for the record of a run.
+pub fn mix_entries(entries: [Entry; 32]) -> u64 {
+    let mut sum: u64 = 0;
+    let mut i: usize = 0;
+    while i < 32 {
+        let entry = entries[i];
+        sum = mix_entry(sum, entry);
+        i += 1;
+    }
+    sum
 }
 
 pub fn digest(state: State) -> u64 {

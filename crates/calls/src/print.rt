@@ -2,6 +2,7 @@
 use crate::digest::bit;
 use crate::digest::digest;
 use crate::digest::mix_all;
+use crate::digest::mix_entries;
 use admission::Admission;
 use libc::STDOUT_FILENO;
 use queue::Finish;
@@ -9,6 +10,7 @@ use rules::Moved;
 use rules::Occupant;
 use rules::TickAnswer;
 use rules::Ticked;
+use scheduler::Recording;
 use table::Checked;
 use table::Refusal;
 use table::SetUp;
@@ -116,6 +118,13 @@ pub fn ticked(t: Ticked) {
 pub fn moved(word: &[u8], m: Moved) {
     let answer = m.answer;
     answered(word, answer, m.state);
+}
+
+pub fn recording(r: Recording) {
+    let answer = r.answer;
+    let entries = r.entries;
+    answered(b": run ", answer, r.state);
+    field(b" entries ", mix_entries(entries));
 }
 
 // The field that a case changes, and the value that it puts there.

@@ -1,0 +1,50 @@
+-- `mix_entries` is safe and ends: i stays within the array.
+use Prim.Native.Nat.{_≤_, _-_}
+use borrow.Author.Needs.{needs}
+use Rattle.calls.proofs.digest.mix_entries.Statement.{statement}
+use Rattle.calls.proofs.digest.mix_entries.Tie as tie
+
+abbrev Inv-loop : tie.InvT-loop
+Inv-loop entries sum₀ i₀ sum i = i ≤ 32
+
+abbrev μ-loop : tie.MeasureT-loop
+μ-loop entries sum₀ i₀ sum i = 32 - i
+
+loop-holds : tie.Need-loop-holds Inv-loop μ-loop
+loop-holds c = search needs
+
+mul-entry : tie.Need-mul-entry Inv-loop μ-loop
+mul-entry c = search needs
+
+array-copy-out-entry : tie.Need-array-copy-out-entry Inv-loop μ-loop
+array-copy-out-entry c = search needs
+
+mix-entry-requires : tie.Need-mix-entry-requires Inv-loop μ-loop
+mix-entry-requires c κs = search needs
+
+add-i : tie.Need-add-i Inv-loop μ-loop
+add-i c = search needs
+
+loop-less : tie.Need-loop-less Inv-loop μ-loop
+loop-less c = search needs
+
+loop-again : tie.Need-loop-again Inv-loop μ-loop
+loop-again c = search needs
+
+returns : tie.Need-returns Inv-loop μ-loop
+returns c = search needs
+
+pub mix-entries-spec : {M : Type 1} → statement M
+mix-entries-spec =
+    tie.close
+    (tie.spec
+    Inv-loop
+    μ-loop
+    loop-holds
+    mul-entry
+    array-copy-out-entry
+    mix-entry-requires
+    add-i
+    loop-less
+    loop-again
+    returns)

@@ -280,7 +280,11 @@ def state_calls(s):
             text += f" finished {finished[0]} response {finished[1]}"
     text += f" state {of(after)}"
     number, after = request(s, 5, 1)
-    return text + f"; request {number} state {of(after)}"
+    text += f"; request {number} state {of(after)}"
+    for k in (0, 32, 33):
+        number, after, entries = run(s, k, [[0, 0, 0]] * 32)
+        text += f"; run {number} state {of(after)} entries {digest([x for entry in entries for x in entry])}"
+    return text
 
 
 def table_calls(s):
@@ -325,13 +329,6 @@ STATE_ORDERS = [
 ]
 REQUESTS = [(0, [0, 1, 60000, 60001, TOP]), (63, [0, 1, 60000, 60001]), (64, [0, 1, 60000, 60001]), (65, [0, 1])]
 
-# of runs with a list of 32 entries
-BLOCKS = [
-    ("clock", 100, [0, 1, 31, 32, 33, 3999999900, 3999999901]), ("clock", 3999999968, [0, 31, 32, 33, TOP]),
-    ("clock", 4000000000, [0, 1, 33]), ("clock", 4000000001, [0, 1]), ("left 0", 4, [0, 33]), ("waiting", 65, [0, TOP]),
-    ("waiting", 64, [32]), ("waiting", 0, [32]), ("work 0", 1, [32]),
-]
-
 
 def main():
     for kind in range(4):
@@ -351,13 +348,6 @@ def main():
                 s["waiting"] = waiting
                 number, after = request(s, TOP, work)
                 print(f"server {kind}{label('waiting', waiting)} work {work}: request {number} state {of(after)}")
-        for field, value, ticks in BLOCKS:
-            for k in ticks:
-                s = base(kind)
-                put(s, field, value)
-                number, after, entries = run(s, k, [[0, 0, 0]] * 32)
-                record = digest([x for entry in entries for x in entry])
-                print(f"server {kind}{label(field, value)} ticks {k}: run {number} state {of(after)} entries {record}")
 
 
 RUNS = [

@@ -98,17 +98,13 @@ fn mix_queue(h: u64, queue: Queue) -> u64 {
     mix_requests(mix(h, queue.n), requests)
 }
 
-fn mix_entry(h: u64, entry: Entry) -> u64 {
-    mix(mix(mix(h, entry.kind), entry.id), entry.drops)
-}
-
 // One number for the record of a run.
 pub fn mix_entries(entries: [Entry; 32]) -> u64 {
     let mut sum: u64 = 0;
     let mut i: usize = 0;
     while i < 32 {
         let entry = entries[i];
-        sum = mix_entry(sum, entry);
+        sum = mix(mix(mix(sum, entry.kind), entry.id), entry.drops);
         i += 1;
     }
     sum

@@ -24,6 +24,7 @@ fn request_call(word: &[u8], state: State, id: u32, work: u32) {
     print::moved(word, scheduler::request(state, id, work));
 }
 
+// A run of k ticks, with a list of 32 entries.
 fn run_call(state: State, k: u32) {
     print::recording(scheduler::run_block(state, k));
 }
@@ -44,6 +45,9 @@ fn answers(state: State, of_table: bool) {
     print::fit(state);
     tick_call(state);
     request_call(b"; request ", state, 5, 1);
+    run_call(state, 0);
+    run_call(state, 32);
+    run_call(state, 33);
     if of_table {
         table_calls(state.table);
     }
@@ -84,14 +88,6 @@ fn request_case(kind: u32, waiting: u32, work: u32) {
     text(b"\n");
 }
 
-// A run of k ticks, with a list of 32 entries.
-fn run_case(kind: u32, letter: u8, value: u32, k: u32) {
-    starts(kind, letter, 0, value);
-    field(b" ticks ", k as u64);
-    run_call(edited(kind, letter, 0, value), k);
-    text(b"\n");
-}
-
 // ---- a case for each value
 
 fn cases(kind: u32, letter: u8, slot: usize, of_table: bool, values: &[u32]) {
@@ -106,14 +102,6 @@ fn request_cases(kind: u32, waiting: u32, works: &[u32]) {
     let mut i: usize = 0;
     while i < works.len() {
         request_case(kind, waiting, works[i]);
-        i += 1;
-    }
-}
-
-fn run_cases(kind: u32, letter: u8, value: u32, ticks: &[u32]) {
-    let mut i: usize = 0;
-    while i < ticks.len() {
-        run_case(kind, letter, value, ticks[i]);
         i += 1;
     }
 }
@@ -194,19 +182,6 @@ fn requests(kind: u32) {
     request_cases(kind, 65, &[0, 1]);
 }
 
-// 11 before 6, and 6 before 10; a run of 0; a tick more than entries; the clock's last values.
-fn runs(kind: u32) {
-    run_cases(kind, b'c', 100, &[0, 1, 31, 32, 33, 3999999900, 3999999901]);
-    run_cases(kind, b'c', 3999999968, &[0, 31, 32, 33, 4294967295]);
-    run_cases(kind, b'c', 4000000000, &[0, 1, 33]);
-    run_cases(kind, b'c', 4000000001, &[0, 1]);
-    run_cases(kind, b'l', 4, &[0, 33]);
-    run_cases(kind, b'q', 65, &[0, 4294967295]);
-    run_cases(kind, b'q', 64, &[32]);
-    run_cases(kind, b'q', 0, &[32]);
-    run_cases(kind, b'w', 1, &[32]);
-}
-
 fn limits(kind: u32) {
     tasks(kind);
     server(kind);
@@ -215,7 +190,6 @@ fn limits(kind: u32) {
     queue(kind);
     state_orders(kind);
     requests(kind);
-    runs(kind);
 }
 
 fn main() {

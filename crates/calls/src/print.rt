@@ -123,7 +123,7 @@ pub fn moved(word: &[u8], m: Moved) {
 pub fn recording(r: Recording) {
     let answer = r.answer;
     let entries = r.entries;
-    answered(b": run ", answer, r.state);
+    answered(b"; run ", answer, r.state);
     field(b" entries ", mix_entries(entries));
 }
 

@@ -19,8 +19,14 @@ mul-entry c = search needs
 array-copy-out-entry : tie.Need-array-copy-out-entry Inv-loop μ-loop
 array-copy-out-entry c = search needs
 
-mix-entry-requires : tie.Need-mix-entry-requires Inv-loop μ-loop
-mix-entry-requires c κs = search needs
+mix-requires : tie.Need-mix-requires Inv-loop μ-loop
+mix-requires c κs = search needs
+
+mix-requires-2 : tie.Need-mix-requires-2 Inv-loop μ-loop
+mix-requires-2 c κs = search needs
+
+mix-requires-3 : tie.Need-mix-requires-3 Inv-loop μ-loop
+mix-requires-3 c κs = search needs
 
 add-i : tie.Need-add-i Inv-loop μ-loop
 add-i c = search needs
@@ -43,7 +49,9 @@ mix-entries-spec =
     loop-holds
     mul-entry
     array-copy-out-entry
-    mix-entry-requires
+    mix-requires
+    mix-requires-2
+    mix-requires-3
     add-i
     loop-less
     loop-again

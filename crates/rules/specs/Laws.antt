@@ -11,6 +11,7 @@ use lib.Seq.{length-take-le}
 use borrow.Author.Tests.{leb-true, le-leb, ltb-true}
 use Rattle.lists.specs.Lists.{all, allWith, zipWith, overlay, take-overlay, zip-length}
 use Rattle.lists.specs.Tests.{never, and-split, and-join}
+use Rattle.server.specs.Limits.{lastClock}
 use Rattle.server.specs.declared.Server.{Server}
 use Rattle.server.specs.Kind.{Kind, background, polling, deferrable, sporadic, kindOf}
 use Rattle.server.specs.Server.{freshServer}
@@ -26,7 +27,7 @@ use Rattle.table.specs.declared.Refusal.{Refusal}
 use Rattle.table.specs.Limits.{maxTasks}
 use Rattle.table.specs.Refusal.{passed}
 use Rattle.table.specs.Model.{Model, taskSetOf, modelOf, written}
-use Rattle.table.specs.State.{lastClock, freshState, tableCheck, leftFits, fit}
+use Rattle.table.specs.State.{freshState, tableCheck, leftFits, fit}
 use Rattle.table.specs.Facts.{TableFacts, table-facts, StateFacts, fit-facts, facts-fit}
 use Rattle.rules.specs.declared.Turn.{Turn}
 use Rattle.rules.specs.declared.Moved.{Moved}

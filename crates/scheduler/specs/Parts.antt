@@ -7,6 +7,7 @@ use lib.ListN.{take, set, getD, replicate}
 use lib.Dec.{leb, ltb}
 use Rattle.lists.specs.Lists.{overlay}
 use Rattle.lists.specs.Time.{due}
+use Rattle.server.specs.Limits.{lastClock}
 use Rattle.server.specs.declared.Seen.{Seen}
 use Rattle.server.specs.Kind.{kindOf}
 use Rattle.server.specs.Server.{replenish}
@@ -21,7 +22,7 @@ use Rattle.table.specs.declared.Checked.{Checked}
 use Rattle.table.specs.Refusal.{passed}
 use Rattle.table.specs.Model.{taskSetOf, modelOf}
 use Rattle.table.specs.Facts.{noTask}
-use Rattle.table.specs.State.{lastClock, fit}
+use Rattle.table.specs.State.{fit}
 use Rattle.rules.specs.declared.Turn.{Turn}
 use Rattle.rules.specs.declared.Entry.{Entry}
 use Rattle.rules.specs.declared.Occupant.{Occupant}
@@ -221,9 +222,13 @@ abbrev pub ranAt : ℕ → ℕ → State → List Entry → List Entry
 ranAt i zero s es = es
 ranAt i (suc m) s es = ranAt (i + 1) m (stateAfter s) (set es i (entryOf (ticked s)))
 
--- ---- a block: the run call with a list of 32 idle entries, all of it by value
+-- ---- a block: the run call with a list of idle entries, all of it by value
+-- how many entries a block has
+abbrev pub blockTicks : ℕ
+blockTicks = 32
+
 abbrev pub idleEntries : List Entry
-idleEntries = replicate 32 (record { kind = 0; id = 0; drops = 0 })
+idleEntries = replicate blockTicks (record { kind = 0; id = 0; drops = 0 })
 
 unfoldable pub blockCall : State → ℕ → Recording
-blockCall s k = record { answer = runCall s k 32 .answer; entries = runList s k idleEntries; state = runCall s k 32 .state }
+blockCall s k = record { answer = runCall s k blockTicks .answer; entries = runList s k idleEntries; state = runCall s k blockTicks .state }

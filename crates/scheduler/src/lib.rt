@@ -647,18 +647,23 @@ fn settle(table: Table, progress: Progress, queue: Queue, given: u32) -> State
     }
 }
 
-// A run of at most 32 ticks, whose record comes by value.
+// A run of a block of ticks at most, whose record comes by value.
 pub struct Recording {
     pub answer: Checked,
-    pub entries: [Entry; 32],
+    pub entries: [Entry; Recording::TICKS],
     pub state: State,
 }
 
-// The run call with a list of 32 idle entries: a caller that lends none has the record of the ticks all the same.
+impl Recording {
+    // How many ticks a block has.
+    pub const TICKS: usize = 32;
+}
+
+// The run call with a list of idle entries, as many as a block has: a caller that lends none has the record of the ticks all the same.
 pub fn run_block(state: State, k: u32) -> Recording
     ensures { λ r. ⌜ r ≡ blockCall state k ⌝ }
 {
-    let allowed = check_run(state, k, 32);
+    let allowed = check_run(state, k, Recording::TICKS);
     let answer = allowed.answer;
     let ticks = allowed.ticks;
     let table = state.table;
@@ -668,7 +673,7 @@ pub fn run_block(state: State, k: u32) -> Recording
         kind: 0,
         id: 0,
         drops: 0,
-    }; 32];
+    }; Recording::TICKS];
     let mut calm: u32 = 0;
     let mut given: u32 = 0;
     let mut i: usize = 0;

@@ -1,3 +1,4 @@
+pub mod Limits
 pub mod Kind
 pub mod Periodic
 pub mod Sporadic

@@ -9,6 +9,7 @@ use lib.ListN.{length, take, getD}
 use lib.Dec.{leb}
 use lib.Seq.{length-take-le}
 use Rattle.lists.specs.Lists.{allWith}
+use Rattle.server.specs.Limits.{lastClock}
 use Rattle.queue.specs.Queue.{waitingOf, requestsFit}
 use Rattle.queue.specs.Steps.{queueFits}
 use Rattle.table.specs.declared.Task.{Task}
@@ -18,7 +19,7 @@ use Rattle.table.specs.declared.Refusal.{Refusal}
 use Rattle.table.specs.declared.Checked.{Checked}
 use Rattle.table.specs.Limits.{taskFits, firstBad, serverFits}
 use Rattle.table.specs.Refusal.{passed}
-use Rattle.table.specs.State.{lastClock, tableCheck, leftFits, serverStateFits, fit}
+use Rattle.table.specs.State.{tableCheck, leftFits, serverStateFits, fit}
 
 module _ (d : Task) where
   -- none of the first i is bad, nor the next

@@ -10,6 +10,7 @@ use lib.Dec.{leb, ltb}
 use Rattle.lists.specs.Lists.{all, allWith}
 use Rattle.lists.specs.Tests.{Every, between, every, every-facts, and-split, and-join, never}
 use Rattle.lists.specs.Loops.{all-at, all-with-at}
+use Rattle.server.specs.Limits.{lastClock, lastNr}
 use Rattle.server.specs.declared.Server.{Server}
 use Rattle.server.specs.declared.ServerState.{ServerState}
 use Rattle.server.specs.Kind.{kindOf}
@@ -22,7 +23,7 @@ use Rattle.table.specs.declared.Refusal.{Refusal}
 use Rattle.table.specs.declared.Checked.{Checked}
 use Rattle.table.specs.Limits.{maxTasks, taskTests, taskFits, firstBad, serverTests, backgroundTests, budgetTests, serverFits, checkServer, checkTasks}
 use Rattle.table.specs.Refusal.{passed}
-use Rattle.table.specs.State.{lastClock, lastNr, tableCheck, leftFits, sporadicFits, serverStateFits, modelFits, fit}
+use Rattle.table.specs.State.{tableCheck, leftFits, sporadicFits, serverStateFits, modelFits, fit}
 use Rattle.table.specs.Model.{taskSetOf, modelOf}
 
 -- ---- a task

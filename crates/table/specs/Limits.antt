@@ -5,6 +5,7 @@ use mathlib.Core.List.{List, [], _∷_}
 use lib.ListN.{length}
 use lib.Dec.{leb, ltb, eqb}
 use Rattle.lists.specs.Tests.{between, every}
+use Rattle.server.specs.Limits.{maxTime}
 use Rattle.server.specs.declared.Server.{Server}
 use Rattle.server.specs.Kind.{Kind, background, polling, deferrable, sporadic, kindOf}
 use Rattle.table.specs.declared.Task.{Task}
@@ -14,9 +15,6 @@ use Rattle.table.specs.declared.Checked.{Checked}
 -- "There are n rows, 1 to 16, numbered from 0, highest priority first."
 abbrev pub maxTasks : ℕ
 maxTasks = 16
-
-abbrev pub maxTime : ℕ
-maxTime = 60_000
 
 -- "1 ≤ e ≤ D ≤ p ≤ 60,000 and f ≤ 60,000."
 abbrev pub taskTests : Task → List Bool

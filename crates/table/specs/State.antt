@@ -5,6 +5,7 @@ use mathlib.Core.List.{List}
 use lib.ListN.{replicate}
 use lib.Dec.{leb}
 use Rattle.lists.specs.Lists.{allWith}
+use Rattle.server.specs.Limits.{lastClock, lastNr}
 use Rattle.server.specs.declared.Server.{Server}
 use Rattle.server.specs.declared.Sporadic.{Sporadic}
 use Rattle.server.specs.declared.ServerState.{ServerState}
@@ -27,13 +28,6 @@ freshState t = record {
   progress = record { left = replicate maxTasks 0; server = freshServer (kindOf (t .server .kind)) (t .server); clock = 0 };
   queue = freshQueue;
 }
-
--- "The clock may stand at 0 to 4,000,000,000."
-abbrev pub lastClock : ℕ
-lastClock = 4_000_000_000
-
-abbrev pub lastNr : ℕ
-lastNr = 4_000_060_000
 
 -- refusals 1, 2 and 3 of a table
 abbrev pub tableCheck : Table → Checked

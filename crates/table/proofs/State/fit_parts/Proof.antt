@@ -1,8 +1,8 @@
 -- `State::fit_parts` meets its contract: the tests in the code's order, by one law on their order.
-use Rattle.table.specs.State.{lastClock}
 use native.Mathlib.Omega.{arith}
 use mathlib.Core.Path.{sym, _∙_}
 use borrow.Author.Tests.{le-leb, lt-leb, not-true, not-false}
+use Rattle.server.specs.Limits.{lastClock}
 use Rattle.table.specs.Facts.{table-facts}
 use Rattle.table.proofs.Laws.{fit-order}
 use borrow.Author.Needs.{needs}

@@ -11,6 +11,7 @@ use lib.ListN.{length, take, getD, set}
 use lib.Seq.{getD-set-same, getD-set-other, take-take}
 use borrow.Author.Tests.{leb-true, leb-false, le-leb}
 use Rattle.lists.specs.Time.{ceil}
+use Rattle.server.specs.Limits.{maxTime}
 use Rattle.server.specs.declared.Server.{Server}
 use Rattle.server.specs.Kind.{kindOf}
 use Rattle.server.specs.Server.{serverDemand}
@@ -64,7 +65,7 @@ parts-step tasks out j v h known e k b = by (decLe (suc k) j)
 
 -- ---- one term more
 pub counted-at : (d t f : ℕ → ℕ) (l n e v lead : ℕ) (w r : Work) → ((x : ℕ) → f x ≡ d x + t x) → n * e ≡ t l →
-    ((x : ℕ) → l ≤ x → t l ≤ t x) → lead ≤ 60_000 * whole → ((x : ℕ) → lead + e * v * x ≤ whole * t x) → DemandAt d l w → Counted w n e v lead r →
+    ((x : ℕ) → l ≤ x → t l ≤ t x) → lead ≤ maxTime * whole → ((x : ℕ) → lead + e * v * x ≤ whole * t x) → DemandAt d l w → Counted w n e v lead r →
     DemandAt f l r
 counted-at d t f l n e v lead w r sum here mono most share at c = record {
   all = omega (arith, sum l, at .all, c .all);
@@ -123,8 +124,8 @@ module _ (s : Server) (n v : ℕ) (limits : ServerLimits s n) (part : ServerPart
       by (suc (suc (suc (suc k)))) e = absurd (omega (arith, limits .kind))
 
   -- the deferrable server's extra budget, less its part of as many ticks
-  pub lead-le : s .budget * (whole - s .budget * v) ≤ 60_000 * whole
-  lead-le = mul-le-mul {n₂ = 60_000} {m₂ = whole} (omega (arith, limits .within, limits .period)) (omega arith)
+  pub lead-le : s .budget * (whole - s .budget * v) ≤ maxTime * whole
+  lead-le = mul-le-mul {n₂ = maxTime} {m₂ = whole} (omega (arith, limits .within, limits .period)) (omega arith)
 
   pub deferrable-leads : s .kind ≡ 2 → ServerLead s v (s .budget * (whole - s .budget * v))
   deferrable-leads e =

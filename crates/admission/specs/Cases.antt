@@ -1,5 +1,5 @@
 -- Cases of admission, worked out apart from the definitions by trying every length.
-use Prim.Native.Nat.{ℕ}
+use Prim.Native.Nat.{ℕ, _-_}
 use mathlib.Core.Path.{_≡_, refl}
 use mathlib.Core.Bool.{Bool, true, false}
 use mathlib.Core.List.{List, [], _∷_}
@@ -50,8 +50,8 @@ pub record AdmissionCases : Type 0 where
   pub refused-task : says (admissionCall (table (task 3 6 2 6 ∷ task 0 5 6 5 ∷ []) (server 2 0 5 2))) ≡ (2, 0 ∷ 0 ∷ 0 ∷ [], 0, false)
   pub refused-server : says (admissionCall (table (task 3 6 2 6 ∷ []) (server 4 0 5 2))) ≡ (3, 0 ∷ 0 ∷ 0 ∷ [], 0, false)
   -- slots past the tasks in use are 0
-  pub slots-past : admissionCall (table three (server 0 3 0 0)) .bounds ≡ 1 ∷ 3 ∷ 7 ∷ replicate 13 0
-  pub refused-slots : admissionCall (table three (server 4 0 5 2)) .bounds ≡ replicate 16 0
+  pub slots-past : admissionCall (table three (server 0 3 0 0)) .bounds ≡ 1 ∷ 3 ∷ 7 ∷ replicate (maxTasks - 3) 0
+  pub refused-slots : admissionCall (table three (server 4 0 5 2)) .bounds ≡ replicate maxTasks 0
 
 pub admission-cases : AdmissionCases
 unfolding overlay

@@ -1,4 +1,4 @@
--- Laws of the demand: it never falls as the length grows, it is bounded, and the least length that meets it is unique.
+-- Laws of the demand: each bound is the least length that meets it, it never falls as the length grows, and the least length is unique.
 use Prim.Native.Nat.{ℕ, zero, suc, _+_, _-_, _*_, _/_, _≤_, _<_}
 use native.Mathlib.Omega.{arith}
 use native.Mathlib.Nat.{div-zero, le-div-iff-mul-le, div-mul-le-self, le-refl, le-trans, mul-le-mul}

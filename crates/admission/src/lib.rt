@@ -7,15 +7,17 @@ ghost use lib.Dec.{ltb, leb};
 ghost use lib.ListN.{take};
 ghost use Rattle.lists.specs.Lists.{overlay, all};
 ghost use Rattle.lists.specs.Time.{ceil};
+ghost use Rattle.server.specs.Limits.{maxTime};
 ghost use Rattle.server.specs.Kind.{kindOf};
 ghost use Rattle.server.specs.Server.{serverDemand};
 ghost use Rattle.table.specs.Facts.{ServerLimits};
+ghost use Rattle.table.specs.Limits.{maxTasks};
 ghost use Rattle.table.specs.Model.{taskSetOf};
 ghost use Rattle.table.specs.Refusal.{passed};
 ghost use Rattle.table.specs.State.{tableCheck};
 ghost use Rattle.admission.specs.Demand.{bounds, ownBound, serverBound, serverAdmitted};
 ghost use Rattle.admission.specs.Terms.{demandOf, Asked};
-ghost use Rattle.admission.specs.Jumps.{whole, TaskParts, ServerPart, ServerLead, PartsOf, Room, Counted, TasksAsked, TasksDemand, DemandAt, FirstOpen, NextOpen, OpenFrom, FirstMet};
+ghost use Rattle.admission.specs.Jumps.{whole, maxTurns, TaskParts, ServerPart, ServerLead, PartsOf, Room, Counted, TasksAsked, TasksDemand, DemandAt, FirstOpen, NextOpen, OpenFrom, FirstMet};
 ghost use Rattle.admission.specs.Admission.{admissionBy, admissionCall};
 use server::Server;
 use table::Checked;
@@ -72,7 +74,7 @@ fn task_parts(
     n: u32,
     slots: [u64; Table::MAX_TASKS as usize],
 ) -> [u64; Table::MAX_TASKS as usize]
-    requires { ⌜ n ≤ 16 ⌝ }
+    requires { ⌜ n ≤ maxTasks ⌝ }
     ensures { λ r. ⌜ TaskParts tasks n r ⌝ }
 {
     let end = n as usize;
@@ -126,8 +128,8 @@ fn parts_of(table: Table) -> Parts
 
 // ceil(L/p), by the period's part: no division.
 fn turns(l: u32, period: u32, part: u64) -> u64
-    requires { ⌜ (l ≤ 60000) × (1 ≤ period) × (period ≤ 60000) × (part ≡ whole / period) ⌝ }
-    ensures { λ r. ⌜ (r ≡ ceil l period) × (r ≤ 120000) ⌝ }
+    requires { ⌜ (l ≤ maxTime) × (1 ≤ period) × (period ≤ maxTime) × (part ≡ whole / period) ⌝ }
+    ensures { λ r. ⌜ (r ≡ ceil l period) × (r ≤ maxTurns) ⌝ }
 {
     ((l + (period - 1)) as u64) * (part + 1) / WHOLE
 }
@@ -207,8 +209,8 @@ fn beyond(l: u32, budget: u32) -> u32
 
 // How often the server may have its budget in L ticks, by kind.
 fn server_turns(server: Server, n: u32, part: u64, l: u32) -> u64
-    requires { ⌜ (l ≤ 60000) × ServerLimits server n × ServerPart server part ⌝ }
-    ensures { λ r. ⌜ (r * server .budget ≡ serverDemand (kindOf (server .kind)) server l) × (r ≤ 120001) ⌝ }
+    requires { ⌜ (l ≤ maxTime) × ServerLimits server n × ServerPart server part ⌝ }
+    ensures { λ r. ⌜ (r * server .budget ≡ serverDemand (kindOf (server .kind)) server l) × (r ≤ 1 + maxTurns) ⌝ }
 {
     let kind = server.kind;
     match kind {
@@ -244,7 +246,7 @@ fn demand(table: Table, parts: Parts, i: u32, own: u32, beside: bool, l: u32, un
 
 // The first length that such work leaves open: none before it is as long as fixed + (extra + rate × x) / WHOLE.
 fn first_length(fixed: u64, extra: u64, rate: u64) -> u32
-    requires { ⌜ (1 ≤ fixed) × (extra ≤ 60000 * whole) ⌝ }
+    requires { ⌜ (1 ≤ fixed) × (extra ≤ maxTime * whole) ⌝ }
     ensures { λ r. ⌜ FirstOpen fixed extra rate r ⌝ }
 {
     if (Table::MAX_TIME as u64) < fixed {
@@ -263,7 +265,7 @@ fn first_length(fixed: u64, extra: u64, rate: u64) -> u32
 
 // The next length to try: none before it meets its demand.
 fn next_length(work: Work) -> u32
-    requires { ⌜ (1 ≤ work .fixed) × (work .extra ≤ 60000 * whole) ⌝ }
+    requires { ⌜ (1 ≤ work .fixed) × (work .extra ≤ maxTime * whole) ⌝ }
     ensures { λ r. ⌜ NextOpen work r ⌝ }
 {
     let open = first_length(work.fixed, work.extra, work.rate);
@@ -387,7 +389,7 @@ fn server_bound(table: Table, parts: Parts) -> u32
 
 // Every one of the first n bounds is above 0.
 fn all_bounded(slots: [u32; Table::MAX_TASKS as usize], n: u32) -> bool
-    requires { ⌜ n ≤ 16 ⌝ }
+    requires { ⌜ n ≤ maxTasks ⌝ }
     ensures { λ r. ⌜ r ≡ all (ltb 0) (take n slots) ⌝ }
 {
     let end = n as usize;

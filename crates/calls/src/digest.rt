@@ -1,8 +1,10 @@
 // One number for a whole state, slots that are not in use included: a refused call hands back a state with the same number, and
 // an accepted call one with the number of the state that it has to hand back.
+use lists::bit;
 use queue::Queue;
 use queue::Request;
 use rules::Entry;
+use scheduler::Recording;
 use server::ServerState;
 use table::Progress;
 use table::State;
@@ -10,6 +12,12 @@ use table::Table;
 use table::Task;
 
 const MODULUS: u64 = 1000003;
+
+// The slots of a table.
+const TASKS: usize = Table::MAX_TASKS as usize;
+
+// The slots of a queue.
+const WAITING: usize = Table::MAX_WAITING as usize;
 
 fn mix(h: u64, x: u32) -> u64 {
     ((h % MODULUS) * 31 + (x as u64)) % MODULUS
@@ -19,17 +27,10 @@ fn mix_four(h: u64, a: u32, b: u32, c: u32, d: u32) -> u64 {
     mix(mix(mix(mix(h, a), b), c), d)
 }
 
-pub fn bit(flag: bool) -> u32 {
-    if flag {
-        return 1;
-    }
-    0
-}
-
-fn mix_tasks(h: u64, tasks: [Task; 16]) -> u64 {
+fn mix_tasks(h: u64, tasks: [Task; TASKS]) -> u64 {
     let mut sum = h;
     let mut i: usize = 0;
-    while i < 16 {
+    while i < TASKS {
         let task = tasks[i];
         sum = mix_four(sum, task.phase, task.period, task.exec, task.deadline);
         i += 1;
@@ -50,10 +51,10 @@ fn mix_table(h: u64, table: Table) -> u64 {
 }
 
 // The numbers of an array, as what is left of the tasks, or their bounds.
-pub fn mix_all(h: u64, numbers: [u32; 16]) -> u64 {
+pub fn mix_all(h: u64, numbers: [u32; TASKS]) -> u64 {
     let mut sum = h;
     let mut i: usize = 0;
-    while i < 16 {
+    while i < TASKS {
         let x = numbers[i];
         sum = mix(sum, x);
         i += 1;
@@ -82,10 +83,10 @@ fn mix_request(h: u64, request: Request) -> u64 {
     mix(mix(mix(h, request.id), request.work), request.arrival)
 }
 
-fn mix_requests(h: u64, requests: [Request; 64]) -> u64 {
+fn mix_requests(h: u64, requests: [Request; WAITING]) -> u64 {
     let mut sum = h;
     let mut i: usize = 0;
-    while i < 64 {
+    while i < WAITING {
         let request = requests[i];
         sum = mix_request(sum, request);
         i += 1;
@@ -99,10 +100,10 @@ fn mix_queue(h: u64, queue: Queue) -> u64 {
 }
 
 // One number for the record of a run.
-pub fn mix_entries(entries: [Entry; 32]) -> u64 {
+pub fn mix_entries(entries: [Entry; Recording::TICKS]) -> u64 {
     let mut sum: u64 = 0;
     let mut i: usize = 0;
-    while i < 32 {
+    while i < Recording::TICKS {
         let entry = entries[i];
         sum = mix(mix(mix(sum, entry.kind), entry.id), entry.drops);
         i += 1;

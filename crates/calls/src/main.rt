@@ -24,7 +24,7 @@ fn request_call(word: &[u8], state: State, id: u32, work: u32) {
     print::moved(word, scheduler::request(state, id, work));
 }
 
-// A run of k ticks, with a list of 32 entries.
+// A run of k ticks, with a list of idle entries, as many as a block has.
 fn run_call(state: State, k: u32) {
     print::recording(scheduler::run_block(state, k));
 }

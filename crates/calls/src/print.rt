@@ -1,10 +1,10 @@
 // Answers as text on standard output. A call's answer is document 01's number of the refusal, 0 for none, with the index of a 2.
-use crate::digest::bit;
 use crate::digest::digest;
 use crate::digest::mix_all;
 use crate::digest::mix_entries;
 use admission::Admission;
 use libc::STDOUT_FILENO;
+use lists::bit;
 use queue::Finish;
 use rules::Moved;
 use rules::Occupant;

@@ -23,7 +23,7 @@ fn table(kind: u32) -> Table {
         exec: 3,
         deadline: 8,
     };
-    let mut tasks = [other; 16];
+    let mut tasks = [other; Table::MAX_TASKS as usize];
     tasks[1] = Task {
         phase: 0,
         period: 20,
@@ -53,7 +53,7 @@ fn table(kind: u32) -> Table {
 
 // What is left of task 0 and task 1; slot 2 is not in use, and holds more than any task may.
 fn progress(kind: u32) -> Progress {
-    let mut left = [0u32; 16];
+    let mut left = [0u32; Table::MAX_TASKS as usize];
     left[0] = 2;
     left[1] = 4;
     left[2] = 60001;
@@ -86,7 +86,7 @@ fn queue() -> Queue {
         work: 5,
         arrival: 50,
     };
-    let mut requests = [other; 64];
+    let mut requests = [other; Table::MAX_WAITING as usize];
     requests[0] = Request {
         id: 7,
         work: 2,
@@ -140,7 +140,7 @@ fn server_with(mut server: Server, letter: u8, value: u32) -> Server {
 }
 
 fn table_with(mut table: Table, letter: u8, slot: usize, value: u32) -> Table {
-    if 16 <= slot {
+    if Table::MAX_TASKS as usize <= slot {
         return table;
     }
     let task = table.tasks[slot];
@@ -164,7 +164,7 @@ fn server_state_with(mut server: ServerState, letter: u8, value: u32) -> ServerS
 }
 
 fn progress_with(mut progress: Progress, letter: u8, slot: usize, value: u32) -> Progress {
-    if 16 <= slot {
+    if Table::MAX_TASKS as usize <= slot {
         return progress;
     }
     progress.server = server_state_with(progress.server, letter, value);
@@ -187,7 +187,7 @@ fn request_with(mut request: Request, letter: u8, value: u32) -> Request {
 }
 
 fn queue_with(mut queue: Queue, letter: u8, slot: usize, value: u32) -> Queue {
-    if 64 <= slot {
+    if Table::MAX_WAITING as usize <= slot {
         return queue;
     }
     let request = queue.requests[slot];

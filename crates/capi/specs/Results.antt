@@ -1,6 +1,6 @@
 -- Each answer as numbers: "If an answer is an enum, a definition gives this paper's number and values for every case of the enum".
 use Prim.Native.Nat.{ℕ}
-use mathlib.Core.Bool.{Bool, cond}
+use Rattle.lists.specs.Numbers.{bitOf}
 use Rattle.queue.specs.declared.Finish.{Finish}
 use Rattle.table.specs.declared.State.{State}
 use Rattle.table.specs.declared.SetUp.{SetUp}
@@ -22,9 +22,6 @@ abbrev pub setUpResult : SetUp → SetUpResult
 setUpResult x = record { number = numberOf (x .answer); index = valueOf (x .answer); state = x .state }
 
 -- "V: admitted 1 or 0"
-abbrev pub bitOf : Bool → ℕ
-bitOf b = cond b 1 0
-
 abbrev pub admissionResult : Admission → AdmissionResult
 admissionResult x = record {
   number = numberOf (x .answer);

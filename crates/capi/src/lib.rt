@@ -5,23 +5,20 @@ ghost use lib.ListN.{length};
 ghost use Rattle.table.specs.Refusal.{value, numberOf, valueOf};
 ghost use Rattle.table.specs.State.{setUpCall};
 ghost use Rattle.admission.specs.Admission.{admissionCall};
-ghost use Rattle.rules.specs.Calls.{entryBy, requestCall, tickCall, runCall, runList};
-ghost use Rattle.capi.specs.Results.{setUpResult, admissionResult, movedResult, doneBy, bitOf, ranResult, tickResultBy, tickResult};
-use admission::Admission;
+ghost use Rattle.rules.specs.Calls.{requestCall, tickCall, runCall, runList};
+ghost use Rattle.capi.specs.Results.{setUpResult, admissionResult, movedResult, doneBy, ranResult, tickResultBy, tickResult};
 use queue::Finish;
 use rules::Entry;
 use rules::Moved;
-use rules::Occupant;
 use rules::TickAnswer;
-use rules::Ticked;
 use table::Checked;
 use table::Refusal;
-use table::SetUp;
 use table::State;
 use table::Table;
 
 // ---- what a call answers: number is 0 or document 01's number of the refusal; index belongs to refusal 2
 
+// Of set-up.
 #[repr(C)]
 pub struct SetUpResult {
     pub number: u32,
@@ -29,7 +26,7 @@ pub struct SetUpResult {
     pub state: State,
 }
 
-// admitted is 1 or 0.
+// Of admission. admitted is 1 or 0.
 #[repr(C)]
 pub struct AdmissionResult {
     pub number: u32,
@@ -46,7 +43,7 @@ pub struct MovedResult {
     pub state: State,
 }
 
-// kind, id and drops are the tick's record. finished is 1 where the tick finished a request: then request is its id and response
+// Of a tick. kind, id and drops are the tick's record. finished is 1 where the tick finished a request: then request is its id and response
 // its response; they are 0 otherwise. Of a refused tick all but number and state is 0.
 #[repr(C)]
 pub struct TickResult {
@@ -69,6 +66,7 @@ struct Done {
 
 // ---- enums as numbers
 
+// The index of a bad task; 0 of every other refusal.
 fn value_of_refusal(refusal: Refusal) -> u32
     ensures { λ r. ⌜ r ≡ value refusal ⌝ }
 {
@@ -84,6 +82,7 @@ fn value_of_refusal(refusal: Refusal) -> u32
     }
 }
 
+// The number of a refusal; 0 where there is none.
 fn number_of(answer: Checked) -> u32
     ensures { λ r. ⌜ r ≡ numberOf answer ⌝ }
 {
@@ -93,6 +92,7 @@ fn number_of(answer: Checked) -> u32
     }
 }
 
+// The index of refusal 2; 0 where there is none.
 fn value_of(answer: Checked) -> u32
     ensures { λ r. ⌜ r ≡ valueOf answer ⌝ }
 {
@@ -102,33 +102,7 @@ fn value_of(answer: Checked) -> u32
     }
 }
 
-fn bit_of(yes: bool) -> u32
-    ensures { λ r. ⌜ r ≡ bitOf yes ⌝ }
-{
-    if yes {
-        return 1;
-    }
-    0
-}
-
-fn entry_by(occupant: Occupant, drops: u32) -> Entry
-    ensures { λ r. ⌜ r ≡ entryBy occupant drops ⌝ }
-{
-    match occupant {
-        Occupant::Idle => Entry {
-            kind: 0,
-            id: 0,
-            drops,
-        },
-        Occupant::Task(i) => Entry {
-            kind: 1,
-            id: i,
-            drops,
-        },
-        Occupant::Request(id) => Entry { kind: 2, id, drops },
-    }
-}
-
+// What a tick finished.
 fn done_by(finish: Finish) -> Done
     ensures { λ r. ⌜ r ≡ doneBy finish ⌝ }
 {
@@ -148,6 +122,7 @@ fn done_by(finish: Finish) -> Done
 
 // ---- answers as numbers
 
+// A request's or a run's answer.
 fn moved_result(moved: Moved) -> MovedResult
     ensures { λ r. ⌜ r ≡ movedResult moved ⌝ }
 {
@@ -159,6 +134,7 @@ fn moved_result(moved: Moved) -> MovedResult
     }
 }
 
+// The answer of a tick that ran.
 fn ran_result(ran: Entry, done: Done, state: State) -> TickResult
     ensures { λ r. ⌜ r ≡ ranResult ran done state ⌝ }
 {
@@ -174,6 +150,7 @@ fn ran_result(ran: Entry, done: Done, state: State) -> TickResult
     }
 }
 
+// A tick's answer, whether it ran or not.
 fn tick_result_by(answer: TickAnswer, state: State) -> TickResult
     ensures { λ r. ⌜ r ≡ tickResultBy answer state ⌝ }
 {
@@ -182,7 +159,7 @@ fn tick_result_by(answer: TickAnswer, state: State) -> TickResult
             occupant,
             drops,
             finish,
-        } => ran_result(entry_by(occupant, drops), done_by(finish), state),
+        } => ran_result(occupant.entry(drops), done_by(finish), state),
         TickAnswer::Refused(refusal) => TickResult {
             number: refusal.number(),
             kind: 0,
@@ -226,7 +203,7 @@ pub extern "C" fn pilqandur_admit(table: Table) -> AdmissionResult
         index: value_of(answer),
         bounds,
         serverbound: a.serverbound,
-        admitted: bit_of(a.admitted),
+        admitted: lists::bit(a.admitted),
     }
 }
 

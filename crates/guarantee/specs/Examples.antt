@@ -1,5 +1,5 @@
 -- The guarantee's hypothesis can be met under each kind of server by a table whose requests load it, and a table that is not admitted
--- can drop. All by computation.
+-- can drop. Calls as numbers. All by computation.
 use Prim.Native.Nat.{ℕ, zero, suc}
 use mathlib.Core.Path.{_≡_, refl}
 use mathlib.Core.Bool.{Bool, true, false, _&&_}
@@ -11,17 +11,16 @@ use Rattle.lists.specs.Stretch.{stretch, howMany}
 use Rattle.table.specs.declared.Table.{Table}
 use Rattle.admission.specs.Admission.{admissionCall}
 use Rattle.rules.specs.declared.Entry.{Entry}
-use Rattle.guarantee.specs.Calls.{Call, request, tick, run, Ran, ticks, clockAfter, hasTask, hasRequest}
-use Rattle.guarantee.specs.Guarantee.{noTask, boundAt, Guarantee}
+use Rattle.rules.specs.Play.{task, server, table}
+use Rattle.scheduler.specs.Parts.{idleEntries}
+use Rattle.guarantee.specs.Calls.{Call, request, tick, run, RanTick, ticks, clockAfter, hasTask, hasRequest}
+use Rattle.guarantee.specs.Guarantee.{boundAt, Guarantee}
 use Rattle.guarantee.specs.Kept.{guarantee}
+use Rattle.guarantee.specs.Numbers.{callsOf}
 
 -- one row 3, 6, 2, D
 abbrev one : ℕ → ℕ → ℕ → ℕ → ℕ → Table
-one D kind place P B = record {
-  tasks = (record { phase = 3; period = 6; exec = 2; deadline = D }) ∷ replicate 15 noTask;
-  n = 1;
-  server = record { kind = kind; place = place; period = P; budget = B };
-}
+one D kind place P B = table (task 3 6 2 D ∷ []) (server kind place P B)
 
 -- "server s 0, P 5, B 2 (background: s 1, P 0, B 0)"
 abbrev marked : ℕ → Table
@@ -51,7 +50,7 @@ unfolding overlay
 loaded-each = refl
 
 -- the queue is never empty from tick 5 to tick 9, and two of these ticks serve it
-abbrev waiting : Ran → Bool
+abbrev waiting : RanTick → Bool
 waiting x = ltb 0 (x .before) && ltb 0 (x .after)
 
 backlogged : map (λ (k : ℕ). all waiting (stretch 5 5 (ticks (marked k) load))) (1 ∷ 2 ∷ []) ≡ true ∷ true ∷ []
@@ -82,6 +81,10 @@ no-bound : boundAt tight 0 ≡ 0
 unfolding overlay
 no-bound = refl
 
-drops : map (λ (x : Ran). x .entry .drops) (ticks tight late) ≡ 0 ∷ 0 ∷ 0 ∷ 0 ∷ 0 ∷ 0 ∷ 0 ∷ 0 ∷ 1 ∷ []
+drops : map (λ (x : RanTick). x .entry .drops) (ticks tight late) ≡ 0 ∷ 0 ∷ 0 ∷ 0 ∷ 0 ∷ 0 ∷ 0 ∷ 0 ∷ 1 ∷ []
 unfolding overlay
 drops = refl
+
+-- ---- calls as numbers: a request with id 7 and work 4, a tick, a run of 9 ticks, and a number that says nothing
+as-numbers : callsOf (0 ∷ 7 ∷ 4 ∷ 1 ∷ 0 ∷ 0 ∷ 2 ∷ 9 ∷ 0 ∷ 5 ∷ []) ≡ request 7 4 ∷ tick ∷ run 9 idleEntries ∷ []
+as-numbers = refl

@@ -1,4 +1,4 @@
--- Demand 3: what an admitted table keeps, whatever the calls are. The proof is in Kept.
+-- Demand 3: what an admitted table keeps, whatever the calls are. That it does is the theorem in Kept.
 use Prim.Native.Nat.{ℕ, _+_, _≤_, _<_}
 use mathlib.Core.Path.{_≡_}
 use mathlib.Core.Bool.{Bool, true, false}
@@ -9,7 +9,7 @@ use Rattle.lists.specs.Stretch.{stretch, howMany}
 use Rattle.server.specs.Kind.{Kind, background, polling, deferrable, sporadic, kindOf}
 use Rattle.table.specs.declared.Task.{Task}
 use Rattle.table.specs.declared.Table.{Table}
-use Rattle.table.specs.Model.{taskSetOf}
+use Rattle.table.specs.Model.{taskSetOf, noTask}
 use Rattle.admission.specs.Admission.{admissionCall}
 use Rattle.guarantee.specs.Calls.{Call, ticks, tickAt, clockAfter, hasTask, hasRequest}
 
@@ -17,9 +17,6 @@ use Rattle.guarantee.specs.Calls.{Call, ticks, tickAt, clockAfter, hasTa
 -- the tasks in use (document 01's rows) in their order, and task i; past the last there is none
 abbrev pub tasksOf : Table → List Task
 tasksOf t = taskSetOf t .tasks
-
-abbrev pub noTask : Task
-noTask = record { phase = 0; period = 0; exec = 0; deadline = 0 }
 
 abbrev pub taskAt : List Task → ℕ → Task
 taskAt xs i = getD xs i noTask

@@ -5,3 +5,4 @@ pub mod Numbers
 pub mod Time
 pub mod Count
 pub mod Stretch
+pub mod Search

@@ -1,11 +1,11 @@
 -- Lists: two lists joined element by element, and a list laid over the front of an array.
-use Prim.Native.Nat.{ℕ, zero, suc, pred, _+_, _<_, _≤_}
+use Prim.Native.Nat.{ℕ, zero, suc, pred, _+_, _<_}
 use native.Mathlib.Nat.{le-of-suc-le-suc, not-suc-le-zero}
-use mathlib.Core.Path.{_≡_, refl, ap, sym, _∙_}
+use mathlib.Core.Path.{_≡_, refl, ap}
 use mathlib.Core.Bool.{Bool, true, false, _&&_, _||_}
 use mathlib.Core.List.{List, [], _∷_, _++_}
 use lib.ListN.{length, take, drop, getD, set}
-use lib.Seq.{take-append-seam, take-append-le}
+use lib.Seq.{take-append-seam}
 
 -- the elements of two lists, joined one by one, as far as both go
 abbrev pub zipWith : {A B C : Type 0} → (A → B → C) → List A → List B → List C
@@ -87,10 +87,6 @@ length-push (suc n) (x ∷ xs) a h = ap suc (length-push n xs a (le-of-suc-le-su
 pub take-overlay : {A : Type 0} (n : ℕ) (new old : List A) → length new ≡ n → take n (overlay new old) ≡ new
 unfolding overlay
 take-overlay n new old e = rw (← e) (take-append-seam new (drop (length new) old))
-
-pub take-overlay-le : {A : Type 0} (k n : ℕ) (new old : List A) → length new ≡ n → k ≤ n → take k (overlay new old) ≡ take k new
-unfolding overlay
-take-overlay-le k n new old e h = take-append-le k new (drop (length new) old) (rw e h)
 
 -- a list of equal length is joined to one of that length
 pub zip-length : {A B C : Type 0} (f : A → B → C) (xs : List A) (ys : List B) → length xs ≡ length ys → length (zipWith f xs ys) ≡ length ys

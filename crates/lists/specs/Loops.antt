@@ -60,13 +60,3 @@ module _ {A B : Type 0} (f : A → B → Bool) (d : A) (e : B) where
   all-with-fails zero (suc n) (x ∷ xs) (y ∷ ys) h k m p = rw p
   all-with-fails (suc i) (suc n) (x ∷ xs) (y ∷ ys) h k m p =
       rw (all-with-fails i n xs ys (omega arith) (omega arith) (omega arith) p) (and-false (f x y))
-
-  pub all-with-at : (i n : ℕ) (xs : List A) (ys : List B) → i < n → i < length xs → i < length ys →
-      allWith f (take n xs) (take n ys) ≡ true → f (getD xs i d) (getD ys i e) ≡ true
-  all-with-at i zero xs ys h k m a = absurd (omega arith)
-  all-with-at i (suc n) [] ys h k m a = absurd (omega arith)
-  all-with-at i (suc n) (x ∷ xs) [] h k m a = absurd (omega arith)
-  all-with-at zero (suc n) (x ∷ xs) (y ∷ ys) h k m a = and-split (f x y) (allWith f (take n xs) (take n ys)) a .0
-  all-with-at (suc i) (suc n) (x ∷ xs) (y ∷ ys) h k m a =
-      all-with-at i n xs ys (omega arith) (omega arith) (omega arith)
-      (and-split (f x y) (allWith f (take n xs) (take n ys)) a .1)

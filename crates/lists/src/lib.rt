@@ -1,6 +1,9 @@
-// Lists and tests that the definitions of every layer share, and two small functions of numbers that several layers use.
+// Lists and tests that the definitions of every layer share, and small functions that several layers use.
+ghost use Prim.Native.Nat.{_+_};
+ghost use lib.ListN.{drop};
 ghost use mathlib.Core.Path.{_≡_};
 ghost use Rattle.lists.specs.Numbers.{bitOf, lesserOf};
+ghost use Rattle.lists.specs.Search.{upTo};
 
 // A flag as a number: 1 or 0.
 pub fn bit(flag: bool) -> u32
@@ -20,4 +23,18 @@ pub fn lesser(a: u32, b: u32) -> u32
         return b;
     }
     a
+}
+
+// The place of the first `byte` from `from` on; where there is none the end, or `from` itself past the end.
+pub fn find(s: &[u8], from: usize, byte: u8) -> usize
+    ensures { λ r. ⌜ r ≡ from + upTo byte (drop from (now (s .entry))) ⌝ }
+{
+    let mut i = from;
+    while i < s.len() {
+        if s[i] == byte {
+            return i;
+        }
+        i += 1;
+    }
+    i
 }

@@ -1,19 +1,22 @@
 -- Laws of the pieces: a line written with room, and numbered lines one by one.
-use Prim.Native.Nat.{ℕ, zero, suc, _+_, _-_, _*_, _≤_, _<_}
+use Prim.Native.Nat.{ℕ, zero, suc, _+_, _-_, _≤_, _<_}
 use mathlib.Core.Path.{_≡_, refl, sym, ap, _∙_, subst}
 use mathlib.Core.Bool.{Bool, true, false, cond}
 use mathlib.Core.List.{List, [], _∷_, _++_, append-nil, append-assoc}
 use native.Mathlib.Omega.{arith}
 use native.Mathlib.Numerals.{add-one}
-use lib.ListN.{length, getD, take, drop}
+use lib.ListN.{length, getD, take}
 use lib.Seq.{take-all}
-use lib.Dec.{leb}
-use borrow.Author.Tests.{leb-true, leb-false, ne-eqb}
+use lib.Dec.{ltb}
+use borrow.Author.Tests.{ltb-true, ne-eqb}
+use Rattle.table.specs.Limits.{maxTasks}
+use Rattle.lists.specs.Numbers.{lesserOf, lesser-left, lesser-right}
 use Rattle.table.specs.declared.State.{State}
 use Rattle.plan.specs.declared.Next.{Next}
 use Rattle.text.specs.declared.Line.{Line}
 use Rattle.text.specs.Buffer.{Wrote, ifRoom, wrote-same, has-room, then, nothing-written}
-use Rattle.text.specs.Lines.{lineBytes, tickLine}
+use Rattle.text.specs.Lines.{lineRoom, lineBytes}
+use Rattle.lines.specs.Lines.{tickLine}
 use Rattle.queue.specs.declared.Request.{Request}
 use Rattle.rules.specs.declared.Entry.{Entry}
 use Rattle.plan.specs.declared.Arrival.{Arrival}
@@ -21,11 +24,11 @@ use Rattle.output.specs.Blocks.{letter, entryLine, Unfinished, Undisturb
 use Rattle.output.specs.declared.Place.{Place}
 use Rattle.output.specs.Output.{numbered}
 
-pub line-in : {l m : List ℕ} {at r : ℕ} (x y : Line) → at + 46 ≤ length l → Wrote l at (ifRoom 46 l at (lineBytes x)) m r → x ≡ y → Wrote l at (lineBytes y) m r
-line-in {l} {m} {at} x y h w e = wrote-same (has-room 46 l at (lineBytes x) h ∙ ap lineBytes e) w
+pub line-in : {l m : List ℕ} {at r : ℕ} (x y : Line) → at + lineRoom ≤ length l → Wrote l at (ifRoom lineRoom l at (lineBytes x)) m r → x ≡ y → Wrote l at (lineBytes y) m r
+line-in {l} {m} {at} x y h w e = wrote-same (has-room lineRoom l at (lineBytes x) h ∙ ap lineBytes e) w
 
-pub line-or : {l m : List ℕ} {at r : ℕ} (x y : Line) → Wrote l at (ifRoom 46 l at (lineBytes x)) m r → x ≡ y → Wrote l at (ifRoom 46 l at (lineBytes y)) m r
-line-or {l} {m} {at} x y w e = wrote-same (ap (λ (z : Line). ifRoom 46 l at (lineBytes z)) e) w
+pub line-or : {l m : List ℕ} {at r : ℕ} (x y : Line) → Wrote l at (ifRoom lineRoom l at (lineBytes x)) m r → x ≡ y → Wrote l at (ifRoom lineRoom l at (lineBytes y)) m r
+line-or {l} {m} {at} x y w e = wrote-same (ap (λ (z : Line). ifRoom lineRoom l at (lineBytes z)) e) w
 
 -- one line more
 numbered-on :
@@ -44,8 +47,8 @@ numbered-on line (suc i) (x ∷ xs) j d h =
     (ap (λ (n : ℕ). numbered line (suc j) (take i xs) ++ lineBytes (line n (getD xs i d))) e ∙ numbered-on line i xs (suc j) d k)
 
 pub numbered-next :
-    {A : Type 0} (line : ℕ → A → Line) (xs : List A) (d : A) (j i : ℕ) {l m n : List ℕ} {from at r : ℕ} (x : Line) → i < length xs → x ≡ line (j + i) (getD xs i d) → at + 46 ≤ length m →
-    Wrote l from (numbered line j (take i xs)) m at → Wrote m at (ifRoom 46 m at (lineBytes x)) n r → Wrote l from (numbered line j (take (i + 1) xs)) n r
+    {A : Type 0} (line : ℕ → A → Line) (xs : List A) (d : A) (j i : ℕ) {l m n : List ℕ} {from at r : ℕ} (x : Line) → i < length xs → x ≡ line (j + i) (getD xs i d) → at + lineRoom ≤ length m →
+    Wrote l from (numbered line j (take i xs)) m at → Wrote m at (ifRoom lineRoom m at (lineBytes x)) n r → Wrote l from (numbered line j (take (i + 1) xs)) n r
 numbered-next line xs d j i x h e k v w =
     wrote-same (numbered-on line i xs j d h ∙ ap (λ (y : ℕ). numbered line j (take y xs)) (sym (add-one i)))
     (then v (line-in x (line (j + i) (getD xs i d)) k w e))
@@ -55,16 +58,16 @@ unfolding numbered
 numbered-none line xs j l at = nothing-written l at
 
 -- as many as a table holds
-pub in-use : (n r : ℕ) (bs : List ℕ) → length bs ≡ 16 → (n ≤ 16 → r ≡ n) → (16 ≤ n → r ≡ 16) → take r bs ≡ take n bs
-in-use n r bs len few many = by (leb n 16) refl
+pub in-use : (n : ℕ) (bs : List ℕ) → length bs ≡ maxTasks → take (lesserOf n maxTasks) bs ≡ take n bs
+in-use n bs len = by (ltb maxTasks n) refl
   where
-    by : (b : Bool) → leb n 16 ≡ b → take r bs ≡ take n bs
-    by true e = ap (λ (k : ℕ). take k bs) (few (leb-true n 16 e))
-    by false e =
-        let h : 16 ≤ n = omega (arith, leb-false n 16 e) in
-        let all : length bs ≤ r = omega (arith, many h) in
-        let more : length bs ≤ n = omega arith in
-        take-all r bs all ∙ sym (take-all n bs more)
+    by : (b : Bool) → ltb maxTasks n ≡ b → take (cond b maxTasks n) bs ≡ take n bs
+    by true e = take-all maxTasks bs (omega arith) ∙ sym (take-all n bs (omega (arith, ltb-true maxTasks n e)))
+    by false e = refl
+
+-- the lesser of two numbers is neither's greater
+pub lesser-both : (a b : ℕ) {r : ℕ} → r ≡ lesserOf a b → (r ≤ a) × (r ≤ b)
+lesser-both a b e = (omega (arith, e, lesser-left a b), omega (arith, e, lesser-right a b))
 
 -- places that agree in their parts
 pub place-same : (t : ℕ) {n k : Next} {s z : State} → n ≡ k → s ≡ z → _≡_ {A = Place} (record { tick = t; next = n; state = s }) (record { tick = t; next = k; state = z })

@@ -6,17 +6,18 @@ use mathlib.Core.Logic.{_⊎_, inl, inr, ⊎-elim}
 use native.Mathlib.Omega.{arith}
 use lib.ListN.{length, take, drop}
 use lib.Seq.{drop-drop}
+use Rattle.output.specs.Rooms.{blockRoom, stepRoom}
 use Rattle.table.specs.declared.State.{State}
 use Rattle.table.specs.declared.Table.{Table}
 use Rattle.text.specs.Buffer.{Wrote, front, behind, wrote-length}
 use Rattle.plan.specs.declared.Arrival.{Arrival}
 use Rattle.plan.specs.declared.Next.{Next}
 use Rattle.plan.specs.Plan.{arrivalsFrom, nextFrom, unrolled}
-use Rattle.plan.proofs.Arrivals.{Walked, walked}
+use Rattle.plan.specs.Arrivals.{Walked, walked}
 use Rattle.output.specs.declared.Place.{Place}
-use Rattle.output.specs.Output.{askedText, asked, ticksText}
-use Rattle.output.specs.Blocks.{Free, NotDue, Ran}
-use Rattle.output.specs.Pieces.{asked-first, textFrom, nextLeft, stepsLeft, Stepped, Filled}
+use Rattle.output.specs.Output.{answerText, arrivalCall, ticksText}
+use Rattle.output.specs.Blocks.{Free, NotDue, RanOn}
+use Rattle.output.specs.Pieces.{arrival-first, textFrom, nextLeft, stepsLeft, Stepped, Filled}
 
 -- what was to be printed is a piece and what is to be printed after it
 module _ (bytes : List ℕ) (ticks : ℕ) (p : Place) (early : p .tick < ticks) where
@@ -25,31 +26,31 @@ module _ (bytes : List ℕ) (ticks : ℕ) (p : Place) (early : p .tick < ticks) 
 
   module _ (a : Arrival) (pos : ℕ) (found : p .next ≡ Next.Found a pos) (due : a .tick ≡ p .tick) where
     abbrev presented : Place
-    presented = record { tick = p .tick; next = nextFrom bytes pos; state = asked (p .state) a .state }
+    presented = record { tick = p .tick; next = nextFrom bytes pos; state = arrivalCall (p .state) a .state }
 
     abbrev line : List ℕ
-    line = askedText (p .tick) (a .id) (asked (p .state) a .answer)
+    line = answerText (p .tick) (a .id) (arrivalCall (p .state) a .answer)
 
     found-rest : unrolled bytes (p .next) ≡ a ∷ arrivalsFrom bytes pos
     unfolding unrolled
     found-rest = ap (unrolled bytes) found
 
-    asked-text : textFrom bytes ticks p ≡ line ++ textFrom bytes ticks presented
+    arrival-text : textFrom bytes ticks p ≡ line ++ textFrom bytes ticks presented
     unfolding textFrom
-    asked-text =
+    arrival-text =
         ap (ticksText (ticks - p .tick) (p .tick) (p .state)) found-rest
         ∙ ap (λ (k : ℕ). ticksText k (p .tick) (p .state) (a ∷ arrivalsFrom bytes pos)) one-more
-        ∙ asked-first (ticks - suc (p .tick)) (p .tick) (p .state) a (arrivalsFrom bytes pos) due
-        ∙ ap (λ (k : ℕ). line ++ ticksText k (p .tick) (asked (p .state) a .state) (arrivalsFrom bytes pos)) (sym one-more)
-        ∙ ap (λ (r : List Arrival). line ++ ticksText (ticks - p .tick) (p .tick) (asked (p .state) a .state) r) (walked bytes pos .left)
+        ∙ arrival-first (ticks - suc (p .tick)) (p .tick) (p .state) a (arrivalsFrom bytes pos) due
+        ∙ ap (λ (k : ℕ). line ++ ticksText k (p .tick) (arrivalCall (p .state) a .state) (arrivalsFrom bytes pos)) (sym one-more)
+        ∙ ap (λ (r : List Arrival). line ++ ticksText (ticks - p .tick) (p .tick) (arrivalCall (p .state) a .state) r) (walked bytes pos .left)
 
     next-fewer : (r : Next) → ((b : Arrival) (q : ℕ) → r ≡ Next.Found b q → (pos < q) × (q ≤ length bytes)) → nextLeft bytes r < suc (length bytes - pos)
     next-fewer (Next.Found b q) f = let g = f b q refl in omega arith
     next-fewer Next.Done f = omega arith
 
-    asked-fewer : stepsLeft bytes ticks presented < stepsLeft bytes ticks p
+    arrival-fewer : stepsLeft bytes ticks presented < stepsLeft bytes ticks p
     unfolding stepsLeft
-    asked-fewer =
+    arrival-fewer =
         let e : nextLeft bytes (p .next) ≡ suc (length bytes - pos) = ap (nextLeft bytes) found in
         let f : nextLeft bytes (nextFrom bytes pos) < suc (length bytes - pos) = next-fewer (nextFrom bytes pos) (walked bytes pos .further) in
         omega arith
@@ -71,15 +72,15 @@ stepped bytes ticks {l} {m} {x} {at} {r} p q w h e f g = record {
 }
 
 module _ (bytes : List ℕ) (ticks : ℕ) {l m : List ℕ} {at r : ℕ} (p q : Place) where
-  pub step-asked :
-      at + 92 ≤ length l → p .tick < ticks → r ≤ at + 92 →
-      (a : Arrival) (pos : ℕ) → p .next ≡ Next.Found a pos → a .tick ≡ p .tick → Wrote l at (askedText (p .tick) (a .id) (asked (p .state) a .answer)) m r →
-      q ≡ record { tick = p .tick; next = nextFrom bytes pos; state = asked (p .state) a .state } → Stepped bytes ticks l at p m r q
-  step-asked room early few a pos f d w e =
+  pub step-arrival :
+      at + stepRoom ≤ length l → p .tick < ticks → r ≤ at + stepRoom →
+      (a : Arrival) (pos : ℕ) → p .next ≡ Next.Found a pos → a .tick ≡ p .tick → Wrote l at (answerText (p .tick) (a .id) (arrivalCall (p .state) a .answer)) m r →
+      q ≡ record { tick = p .tick; next = nextFrom bytes pos; state = arrivalCall (p .state) a .state } → Stepped bytes ticks l at p m r q
+  step-arrival room early few a pos f d w e =
       subst (Stepped bytes ticks l at p m r) (sym e)
-      (stepped bytes ticks p _ w (omega arith) (asked-text bytes ticks p early a pos f d) (asked-fewer bytes ticks p early a pos f d) (omega arith))
+      (stepped bytes ticks p _ w (omega arith) (arrival-text bytes ticks p early a pos f d) (arrival-fewer bytes ticks p early a pos f d) (omega arith))
 
-  pub step-ran : Ran ticks l at p m r q → Stepped bytes ticks l at p m r q
+  pub step-ran : RanOn ticks l at p m r q → Stepped bytes ticks l at p m r q
   unfolding stepsLeft
   step-ran h = stepped bytes ticks p q (h .wrote) (h .fits) (h .prints bytes) fewer (h .within)
     where
@@ -87,13 +88,13 @@ module _ (bytes : List ℕ) (ticks : ℕ) {l m : List ℕ} {at r : ℕ} (p q : P
       fewer = omega (arith, ap (nextLeft bytes) (h .next), h .later, h .within)
 
 -- the ticks of a block, where it has room
-module _ (ticks : ℕ) (p : Place) (k j n at : ℕ) (some : 0 < j) (found : 0 < k → Free ticks p k) (room : 0 < j → (j ≡ k) × (at + 1_472 ≤ n)) where
+module _ (ticks : ℕ) (p : Place) (k j n at : ℕ) (some : 0 < j) (found : 0 < k → Free ticks p k) (room : 0 < j → (j ≡ k) × (at + blockRoom ≤ n)) where
   pub room-free : Free ticks p j
   room-free =
       let e : j ≡ k = room some .0 in
       subst (Free ticks p) (sym e) (found (omega arith))
 
-  pub room-fits : at + 1_472 ≤ n
+  pub room-fits : at + blockRoom ≤ n
   room-fits = room some .1
 
 -- the next A line is not due: it is another tick's, or there is none
@@ -145,7 +146,7 @@ module _ (bytes : List ℕ) (ticks : ℕ) (l : List ℕ) (p : Place) where
       fewer = λ e k. ⊎-elim (λ o. absurd (omega (arith, ap (λ (x : Place). x .tick) (o .1)))) (λ g. g) (f .moved);
     }
 
-    pub filling-full : length l < at + 92 → Filled bytes ticks l p m at q
+    pub filling-full : length l < at + stepRoom → Filled bytes ticks l p m at q
     filling-full h = record {
       text = f .text;
       behind = f .behind;

@@ -9,6 +9,7 @@ use mathlib.Core.List.{List, [], _∷_, _++_, append-nil, append-assoc}
 use lib.ListN.{length, take}
 use lib.Dec.{eqb, leb}
 use borrow.Author.Tests.{lt-leb}
+use Rattle.output.specs.Rooms.{blockRoom, stepRoom}
 use Rattle.lists.specs.Lists.{take-overlay}
 use Rattle.queue.specs.declared.Request.{Request}
 use Rattle.queue.specs.declared.Finish.{Finish}
@@ -25,11 +26,11 @@ use Rattle.rules.specs.Tick.{Tick, workedQueue, finishOf, turnAt}
 use Rattle.rules.specs.Calls.{entryBy, entryOf, ticked, stateAfter, tickBy, tickCall, ticksCheck, ranBy, runState, runEntries, runCheck, runCall, runList}
 use Rattle.rules.specs.Laws.{Sized}
 use Rattle.scheduler.specs.declared.Recording.{Recording}
-use Rattle.scheduler.specs.Parts.{mayRun, allowance, idleEntries, blockCall}
-use Rattle.scheduler.proofs.Together.{may-fit}
-use Rattle.scheduler.proofs.Runs.{one, onwards, starts, run-length}
+use Rattle.scheduler.specs.Parts.{blockTicks, mayRun, allowance, idleEntries, blockCall}
+use Rattle.scheduler.specs.Laws.{starts, one, onwards, may-fit, run-length}
 use Rattle.text.specs.declared.Line.{Line}
-use Rattle.text.specs.Lines.{lineBytes, tickLine}
+use Rattle.text.specs.Lines.{lineRoom, lineBytes}
+use Rattle.lines.specs.Lines.{tickLine}
 use Rattle.text.specs.Buffer.{Wrote, wrote-same}
 use Rattle.plan.specs.declared.Arrival.{Arrival}
 use Rattle.plan.specs.declared.Next.{Next}
@@ -61,7 +62,7 @@ Undisturbed Next.Done t = Unit {0}
 
 -- k ticks that may be run at once from a place
 pub record Free (ticks : ℕ) (p : Place) (k : ℕ) : Type 0 where
-  pub few : k ≤ 32
+  pub few : k ≤ blockTicks
   pub ends : p .tick + k ≤ ticks
   pub next : Undisturbed (p .next) (p .tick + k)
   pub head : Unfinished (waitingOf (p .state .queue)) k
@@ -151,7 +152,7 @@ NotDue (Next.Found a q) t = a .tick ≡ t → ⊥
 NotDue Next.Done t = Unit {0}
 
 -- some ticks are run from p: the buffer l, filled up to `at`, becomes m, filled up to r, and q is the place after them
-pub record Ran (ticks : ℕ) (l : List ℕ) (at : ℕ) (p : Place) (m : List ℕ) (r : ℕ) (q : Place) : Type 0 where
+pub record RanOn (ticks : ℕ) (l : List ℕ) (at : ℕ) (p : Place) (m : List ℕ) (r : ℕ) (q : Place) : Type 0 where
   pub text : List ℕ
   pub wrote : Wrote l at text m r
   pub prints : (bytes : List ℕ) → textFrom bytes ticks p ≡ text ++ textFrom bytes ticks q
@@ -172,11 +173,11 @@ none-before Next.Done t bytes h = tt
 
 -- one tick
 pub ran-tick :
-    (ticks : ℕ) {l m : List ℕ} {at r : ℕ} (p q : Place) → at + 92 ≤ length l → r ≤ at + 92 → p .tick < ticks → NotDue (p .next) (p .tick) →
+    (ticks : ℕ) {l m : List ℕ} {at r : ℕ} (p q : Place) → at + stepRoom ≤ length l → r ≤ at + stepRoom → p .tick < ticks → NotDue (p .next) (p .tick) →
     Wrote l at (tickText (p .tick) (tickCall (p .state) .answer)) m r → q ≡ record { tick = p .tick + 1; next = p .next; state = tickCall (p .state) .state } →
-    Ran ticks l at p m r q
+    RanOn ticks l at p m r q
 unfolding textFrom
-ran-tick ticks {l} {m} {at} {r} p q room few early idle w e = subst (Ran ticks l at p m r) (sym e) (record {
+ran-tick ticks {l} {m} {at} {r} p q room few early idle w e = subst (RanOn ticks l at p m r) (sym e) (record {
   text = tickText (p .tick) (tickCall (p .state) .answer);
   wrote = w;
   prints = λ bytes. prints bytes;
@@ -196,11 +197,11 @@ ran-tick ticks {l} {m} {at} {r} p q room few early idle w e = subst (Ran ticks l
 
 -- a block
 pub ran-block :
-    (ticks : ℕ) {l m : List ℕ} {at r : ℕ} (p q : Place) (k : ℕ) (b : Recording) → 0 < k → at + 1_472 ≤ length l → r ≤ at + k * 46 → Free ticks p k → Sized (p .state) →
+    (ticks : ℕ) {l m : List ℕ} {at r : ℕ} (p q : Place) (k : ℕ) (b : Recording) → 0 < k → at + blockRoom ≤ length l → r ≤ at + k * lineRoom → Free ticks p k → Sized (p .state) →
     b ≡ blockCall (p .state) k → b .answer ≡ Checked.Passed → Wrote l at (blockText (p .tick) (take k (b .entries))) m r →
-    q ≡ record { tick = p .tick + k; next = p .next; state = b .state } → Ran ticks l at p m r q
+    q ≡ record { tick = p .tick + k; next = p .next; state = b .state } → RanOn ticks l at p m r q
 unfolding textFrom allowance blockCall
-ran-block ticks {l} {m} {at} {r} p q k b some room few free z eb ea w e = subst (Ran ticks l at p m r) (sym place) (record {
+ran-block ticks {l} {m} {at} {r} p q k b some room few free z eb ea w e = subst (RanOn ticks l at p m r) (sym place) (record {
   text = blockText (p .tick) (runEntries k (p .state));
   wrote = wrote-same (ap (λ (es : List Entry). blockText (p .tick) es) (ap (λ (x : Recording). take k (x .entries)) eb ∙ entries)) w;
   prints = λ bytes. prints bytes;
@@ -210,20 +211,20 @@ ran-block ticks {l} {m} {at} {r} p q k b some room few free z eb ea w e = subst 
   within = free .ends;
 })
   where
-    place : q ≡ record { tick = p .tick + k; next = p .next; state = runCall (p .state) k 32 .state }
+    place : q ≡ record { tick = p .tick + k; next = p .next; state = runCall (p .state) k blockTicks .state }
     place = e ∙ ap (λ (x : Recording). record { tick = p .tick + k; next = p .next; state = x .state }) eb
 
-    ok : passed (runCheck (p .state) k 32) ≡ true
+    ok : passed (runCheck (p .state) k blockTicks) ≡ true
     ok = ap passed (sym (ap (λ (x : Recording). x .answer) eb) ∙ ea)
 
     entries : take k (runList (p .state) k idleEntries) ≡ runEntries k (p .state)
     entries = rw ok (take-overlay k (runEntries k (p .state)) idleEntries (run-length k (p .state)))
 
     may : mayRun k (p .state) ≡ true
-    may = rw ok at (starts (p .state) k 32)
+    may = rw ok at (starts (p .state) k blockTicks)
 
     prints : (bytes : List ℕ) → textFrom bytes ticks p ≡
-        blockText (p .tick) (runEntries k (p .state)) ++ textFrom bytes ticks (record { tick = p .tick + k; next = p .next; state = runCall (p .state) k 32 .state })
+        blockText (p .tick) (runEntries k (p .state)) ++ textFrom bytes ticks (record { tick = p .tick + k; next = p .next; state = runCall (p .state) k blockTicks .state })
     prints bytes =
         let all : ticks - p .tick ≡ k + (ticks - (p .tick + k)) = omega (arith, free .ends) in
         rw (all, ok) (block-first k (ticks - (p .tick + k)) (p .tick) (p .state) (unrolled bytes (p .next)) may z (free .head) (none-before (p .next) (p .tick + k) bytes (free .next)))

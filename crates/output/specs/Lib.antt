@@ -1,3 +1,4 @@
+pub mod Rooms
 pub mod Output
 pub mod Pieces
 pub mod Blocks

@@ -18,7 +18,8 @@ use Rattle.rules.specs.declared.Ticked.{Ticked}
 use Rattle.rules.specs.declared.Moved.{Moved}
 use Rattle.rules.specs.Calls.{requestCall, tickCall}
 use Rattle.text.specs.declared.Line.{Line}
-use Rattle.text.specs.Lines.{lineBytes, taskBoundLine, serverBoundLine, admittedLine, refusedLine, tickLine, finishLine, planRefusedLine}
+use Rattle.text.specs.Lines.{lineBytes}
+use Rattle.lines.specs.Lines.{taskBoundLine, serverBoundLine, admittedLine, refusedLine, tickLine, finishLine, planRefusedLine}
 use Rattle.plan.specs.declared.Arrival.{Arrival}
 use Rattle.plan.specs.declared.Answer.{Answer}
 use Rattle.plan.specs.declared.Plan.{Plan}
@@ -44,9 +45,9 @@ headText n a = boundsText 0 (take n (a .bounds)) ++ verdictText (a .serverbound)
 
 -- ---- one tick
 -- "A request refused for a full queue prints `N,tick,id,5`": the number is the refusal's; of an accepted plan no other comes
-abbrev pub askedText : ℕ → ℕ → Checked → List ℕ
-askedText t id Checked.Passed = []
-askedText t id (Checked.Refused r) = lineBytes (refusedLine t id (number r))
+abbrev pub answerText : ℕ → ℕ → Checked → List ℕ
+answerText t id Checked.Passed = []
+answerText t id (Checked.Refused r) = lineBytes (refusedLine t id (number r))
 
 -- "X: tick, I idle or T row or A request, row or id, drops."
 abbrev pub occupantLine : ℕ → Occupant → ℕ → Line
@@ -66,17 +67,17 @@ tickText t (TickAnswer.Refused r) = []
 
 -- ---- the A lines of a tick: "An A line is presented before its tick; one at or past the end isn't."
 -- the request call of an A line
-abbrev pub asked : State → Arrival → Moved
-asked s a = requestCall s (a .id) (a .work)
+abbrev pub arrivalCall : State → Arrival → Moved
+arrivalCall s a = requestCall s (a .id) (a .work)
 
 -- those of tick t at the front of a list: what presenting them prints, the state after them, and the A lines that are left
 unfoldable pub dueText : ℕ → State → List Arrival → List ℕ
 dueText t s [] = []
-dueText t s (a ∷ rest) = cond (eqb (a .tick) t) (askedText t (a .id) (asked s a .answer) ++ dueText t (asked s a .state) rest) []
+dueText t s (a ∷ rest) = cond (eqb (a .tick) t) (answerText t (a .id) (arrivalCall s a .answer) ++ dueText t (arrivalCall s a .state) rest) []
 
 unfoldable pub afterDue : ℕ → State → List Arrival → State
 afterDue t s [] = s
-afterDue t s (a ∷ rest) = cond (eqb (a .tick) t) (afterDue t (asked s a .state) rest) s
+afterDue t s (a ∷ rest) = cond (eqb (a .tick) t) (afterDue t (arrivalCall s a .state) rest) s
 
 unfoldable pub later : ℕ → List Arrival → List Arrival
 later t [] = []

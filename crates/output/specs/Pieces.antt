@@ -8,15 +8,16 @@ use native.Mathlib.Omega.{arith}
 use borrow.Author.Tests.{eq-eqb, ne-eqb}
 use lib.ListN.{length, take, drop}
 use lib.Dec.{eqb}
+use Rattle.output.specs.Rooms.{stepRoom}
 use Rattle.table.specs.declared.State.{State}
 use Rattle.table.specs.declared.Table.{Table}
 use Rattle.table.specs.State.{setUpCall}
-use Rattle.rules.specs.Calls.{requestCall, tickCall}
+use Rattle.rules.specs.Calls.{tickCall}
 use Rattle.plan.specs.declared.Arrival.{Arrival}
 use Rattle.plan.specs.declared.Next.{Next}
 use Rattle.plan.specs.Plan.{nextFrom, unrolled}
 use Rattle.output.specs.declared.Place.{Place}
-use Rattle.output.specs.Output.{askedText, tickText, asked, dueText, afterDue, later, ticksText}
+use Rattle.output.specs.Output.{answerText, tickText, arrivalCall, dueText, afterDue, later, ticksText}
 
 -- no A line of tick t stands at the front
 abbrev pub NoneDue : ℕ → List Arrival → Type 0
@@ -38,11 +39,11 @@ module _ (k t : ℕ) (s : State) where
   opened rest = refl
 
   module _ (a : Arrival) (rest : List Arrival) (e : a .tick ≡ t) where
-    due-on : dueText t s (a ∷ rest) ≡ askedText t (a .id) (asked s a .answer) ++ dueText t (asked s a .state) rest
+    due-on : dueText t s (a ∷ rest) ≡ answerText t (a .id) (arrivalCall s a .answer) ++ dueText t (arrivalCall s a .state) rest
     unfolding dueText
     due-on = rw (eq-eqb _ _ e) refl
 
-    after-on : afterDue t s (a ∷ rest) ≡ afterDue t (asked s a .state) rest
+    after-on : afterDue t s (a ∷ rest) ≡ afterDue t (arrivalCall s a .state) rest
     unfolding afterDue
     after-on = rw (eq-eqb _ _ e) refl
 
@@ -65,13 +66,13 @@ module _ (k t : ℕ) (s : State) where
 
 module _ (k t : ℕ) (s : State) where
   -- an A line of tick t: its N line, if it has one, then the rest with it presented
-  pub asked-first :
+  pub arrival-first :
       (a : Arrival) (rest : List Arrival) → a .tick ≡ t →
-      ticksText (suc k) t s (a ∷ rest) ≡ askedText t (a .id) (asked s a .answer) ++ ticksText (suc k) t (asked s a .state) rest
-  asked-first a rest e =
+      ticksText (suc k) t s (a ∷ rest) ≡ answerText t (a .id) (arrivalCall s a .answer) ++ ticksText (suc k) t (arrivalCall s a .state) rest
+  arrival-first a rest e =
       opened k t s (a ∷ rest) ∙ join (tickOn k t) (due-on k t s a rest e) (after-on k t s a rest e) (later-on k t s a rest e)
-      ∙ append-assoc (askedText t (a .id) (asked s a .answer)) (dueText t (asked s a .state) rest) (tickOn k t (afterDue t (asked s a .state) rest) (later t rest))
-      ∙ ap (λ (x : List ℕ). askedText t (a .id) (asked s a .answer) ++ x) (sym (opened k t (asked s a .state) rest))
+      ∙ append-assoc (answerText t (a .id) (arrivalCall s a .answer)) (dueText t (arrivalCall s a .state) rest) (tickOn k t (afterDue t (arrivalCall s a .state) rest) (later t rest))
+      ∙ ap (λ (x : List ℕ). answerText t (a .id) (arrivalCall s a .answer) ++ x) (sym (opened k t (arrivalCall s a .state) rest))
 
   -- none: the tick's X and F lines, then the ticks after it
   pub tick-first :
@@ -115,24 +116,25 @@ pub record Filled (bytes : List ℕ) (ticks : ℕ) (l : List ℕ) (p : Place) (m
   pub behind : drop r m ≡ drop r l
   pub fits : r ≤ length l
   pub same : length m ≡ length l
-  pub stops : (ticks ≤ q .tick) ⊎ (length l < r + 92)
-  pub fewer : p .tick < ticks → 92 ≤ length l → stepsLeft bytes ticks q < stepsLeft bytes ticks p
+  pub stops : (ticks ≤ q .tick) ⊎ (length l < r + stepRoom)
+  pub fewer : p .tick < ticks → stepRoom ≤ length l → stepsLeft bytes ticks q < stepsLeft bytes ticks p
 
--- pieces, each taken from the front of what was still to be printed, up to the last tick
-pub data Printed (bytes : List ℕ) (ticks : ℕ) : Place → List (List ℕ) → Type 0 where
-  done : {p : Place} → ticks ≤ p .tick → Printed bytes ticks p []
+-- what stands in buffers that are filled one after the other, from a place up to the last tick
+pub data Fills (bytes : List ℕ) (ticks : ℕ) : Place → List (List ℕ) → Type 0 where
+  done : {p : Place} → ticks ≤ p .tick → Fills bytes ticks p []
   more :
-      {p q : Place} {piece : List ℕ} {ps : List (List ℕ)} → textFrom bytes ticks p ≡ piece ++ textFrom bytes ticks q → Printed bytes ticks q ps →
-      Printed bytes ticks p (piece ∷ ps)
+      {l m : List ℕ} {r : ℕ} {p q : Place} {ps : List (List ℕ)} → Filled bytes ticks l p m r q → Fills bytes ticks q ps →
+      Fills bytes ticks p (take r m ∷ ps)
 
+-- pieces put together
 abbrev pub joined : List (List ℕ) → List ℕ
 joined [] = []
 joined (x ∷ xs) = x ++ joined xs
 
 -- the pieces in order are the whole
-pub pieces-whole : {bytes : List ℕ} {ticks : ℕ} {p : Place} {ps : List (List ℕ)} → Printed bytes ticks p ps → joined ps ≡ textFrom bytes ticks p
+pub pieces-whole : {bytes : List ℕ} {ticks : ℕ} {p : Place} {ps : List (List ℕ)} → Fills bytes ticks p ps → joined ps ≡ textFrom bytes ticks p
 unfolding textFrom ticksText
 pieces-whole {bytes} {ticks} {p} (done h) =
     let none : ticks - p .tick ≡ 0 = omega arith in
     rw none refl
-pieces-whole {bytes} {ticks} (more {p} {q} {piece} {ps} e later) = ap (λ (x : List ℕ). piece ++ x) (pieces-whole later) ∙ sym e
+pieces-whole {bytes} {ticks} (more {l} {m} {r} {p} {q} {ps} f later) = ap (λ (x : List ℕ). take r m ++ x) (pieces-whole later) ∙ sym (f .text)

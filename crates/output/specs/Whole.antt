@@ -1,21 +1,21 @@
--- What `schedule` writes is scheduleText: the Z line of a refused plan; the head of an accepted one and then its filled buffers, in order.
+-- What the functions of this crate write into the buffers that they are lent is, in order, scheduleText: the Z line of a refused plan; the
+-- head of an accepted one and then its filled buffers. (That `schedule` writes these bytes to standard output is tested, not proved.)
 use Prim.Native.Nat.{ℕ, _-_}
 use mathlib.Core.Path.{_≡_, sym, ap, _∙_}
-use mathlib.Core.List.{List, _∷_, _++_}
+use mathlib.Core.List.{List, _++_}
 use native.Mathlib.Omega.{arith}
-use lib.ListN.{take}
 use Rattle.table.specs.State.{setUpCall}
 use Rattle.admission.specs.Admission.{admissionCall}
-use Rattle.text.specs.Lines.{lineBytes, planRefusedLine}
+use Rattle.text.specs.Lines.{lineBytes}
+use Rattle.lines.specs.Lines.{planRefusedLine}
 use Rattle.plan.specs.declared.Arrival.{Arrival}
 use Rattle.plan.specs.declared.Answer.{Answer}
 use Rattle.plan.specs.declared.PlanRefusal.{PlanRefusal}
 use Rattle.plan.specs.Refusal.{number}
 use Rattle.plan.specs.Plan.{planOf, nextFrom, unrolled}
-use Rattle.plan.proofs.Arrivals.{walked}
-use Rattle.output.specs.declared.Place.{Place}
+use Rattle.plan.specs.Arrivals.{walked}
 use Rattle.output.specs.Output.{headText, ticksText, textBy, scheduleText}
-use Rattle.output.specs.Pieces.{textFrom, firstPlace, Filled, Printed, more, joined, pieces-whole}
+use Rattle.output.specs.Pieces.{textFrom, firstPlace, Fills, joined, pieces-whole}
 
 -- a refused plan: what `refused` writes
 pub refused-whole :
@@ -42,13 +42,7 @@ module _ (bytes : List ℕ) (ok : planOf bytes .answer ≡ Answer.Accepted) wher
       ∙ ap (λ (r : List Arrival). top ++ ticksText (planOf bytes .ticks) 0 (setUpCall (planOf bytes .table) .state) r) (walked bytes 0 .left)
       ∙ ap (λ (k : ℕ). top ++ ticksText k 0 (setUpCall (planOf bytes .table) .state) (unrolled bytes (nextFrom bytes 0))) all
 
-  -- the head, then the pieces up to the last tick
+  -- the head, then the filled buffers up to the last tick
   pub schedule-whole :
-      {ps : List (List ℕ)} → Printed bytes (planOf bytes .ticks) (firstPlace bytes (planOf bytes .table)) ps → top ++ joined ps ≡ scheduleText bytes
+      {ps : List (List ℕ)} → Fills bytes (planOf bytes .ticks) (firstPlace bytes (planOf bytes .table)) ps → top ++ joined ps ≡ scheduleText bytes
   schedule-whole ps = ap (λ (x : List ℕ). top ++ x) (pieces-whole ps) ∙ sym accepted-whole
-
--- a filled buffer is a piece
-pub filled-piece :
-    {bytes l m : List ℕ} {ticks r : ℕ} {p q : Place} {ps : List (List ℕ)} → Filled bytes ticks l p m r q → Printed bytes ticks q ps →
-    Printed bytes ticks p (take r m ∷ ps)
-filled-piece f later = more (f .text) later

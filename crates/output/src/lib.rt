@@ -5,12 +5,17 @@ ghost use lib.ListN.{length, take};
 ghost use Rattle.admission.specs.Admission.{admissionCall};
 ghost use Rattle.rules.specs.Calls.{tickCall};
 ghost use Rattle.text.specs.Buffer.{Wrote, ifRoom};
-ghost use Rattle.text.specs.Lines.{lineBytes, planRefusedLine};
+ghost use Rattle.text.specs.Lines.{lineRoom, lineBytes};
+ghost use Rattle.lines.specs.Lines.{planRefusedLine};
+ghost use Rattle.plan.specs.Text.{maxNumber};
 ghost use Rattle.plan.specs.Plan.{nextFrom};
 ghost use Rattle.plan.specs.Refusal.{number};
-ghost use Rattle.output.specs.Output.{boundsText, headText, verdictText, asked, askedText, occupantLine, finishText, tickText};
+ghost use Rattle.table.specs.Limits.{maxTasks};
+ghost use Rattle.scheduler.specs.Parts.{blockTicks};
+ghost use Rattle.output.specs.Rooms.{stepRoom, headRoom, blockRoom};
+ghost use Rattle.output.specs.Output.{boundsText, headText, verdictText, arrivalCall, answerText, occupantLine, finishText, tickText};
 ghost use Rattle.queue.specs.Queue.{waitingOf};
-ghost use Rattle.output.specs.Blocks.{entryLine, blockText, Unfinished, Undisturbed, Free, NotDue, Ran};
+ghost use Rattle.output.specs.Blocks.{entryLine, blockText, Unfinished, Undisturbed, Free, NotDue, RanOn};
 ghost use Rattle.output.specs.Pieces.{firstPlace, Stepped, Filled};
 use admission::Admission;
 use plan::Arrival;
@@ -21,6 +26,7 @@ use queue::Queue;
 use rules::Entry;
 use rules::Occupant;
 use rules::TickAnswer;
+use scheduler::Recording;
 use table::Checked;
 use table::State;
 use table::Table;
@@ -39,35 +45,36 @@ pub struct Printed {
     pub at: usize,
 }
 
-// The most bytes that a step writes: an X line and an F line.
-pub const STEP_ROOM: usize = 92;
+// The room that must be there for a step to begin: an X line and an F line. (Where there is room for more, a step may run more ticks.)
+pub const STEP_ROOM: usize = 2 * text::LINE_ROOM;
 
-// The most ticks that are run at once, and the most bytes of their X lines.
-const BLOCK: u32 = 32;
+// The most ticks that are run at once.
+const BLOCK: u32 = Recording::TICKS as u32;
 
-const BLOCK_ROOM: usize = 1472;
+// The room that must be there for ticks to be run at once: their X lines.
+const BLOCK_ROOM: usize = Recording::TICKS * text::LINE_ROOM;
 
-// The most bytes of the head: a B line for each task, the server's, and the V line.
-pub const HEAD_ROOM: usize = 828;
+// The room that must be there for the head: a B line for each task, the server's, and the V line.
+pub const HEAD_ROOM: usize = (Table::MAX_TASKS as usize + 2) * text::LINE_ROOM;
 
 // The Z line of a refused plan, from the buffer's start.
 pub fn refused(out: &mut [u8], k: PlanRefusal, line: u32) -> usize
-    ensures { λ r. ⌜ (r ≤ 46) × (Wrote (now (out .entry)) 0 (ifRoom 46 (now (out .entry)) 0 (lineBytes (planRefusedLine (number k) line))) (now (out .exit)) r) ⌝ }
+    ensures { λ r. ⌜ (r ≤ lineRoom) × (Wrote (now (out .entry)) 0 (ifRoom lineRoom (now (out .entry)) 0 (lineBytes (planRefusedLine (number k) line))) (now (out .exit)) r) ⌝ }
 {
     let n = plan::refusal_number(k);
-    text::write_line(out, 0, text::plan_refused_line(n, line))
+    text::write_line(out, 0, lines::plan_refused_line(n, line))
 }
 
 // The B line of each of n tasks, from the buffer's start.
-fn bounds_lines(out: &mut [u8], bounds: [u32; 16], n: u32) -> usize
-    requires { ⌜ (n ≤ 16) × (828 ≤ length (now out)) ⌝ }
-    ensures { λ r. ⌜ (length bounds ≡ 16) × (r ≤ n * 46) × (Wrote (now (out .entry)) 0 (boundsText 0 (take n bounds)) (now (out .exit)) r) ⌝ }
+fn bounds_lines(out: &mut [u8], bounds: [u32; Table::MAX_TASKS as usize], n: u32) -> usize
+    requires { ⌜ (n ≤ maxTasks) × (headRoom ≤ length (now out)) ⌝ }
+    ensures { λ r. ⌜ (length bounds ≡ maxTasks) × (r ≤ n * lineRoom) × (Wrote (now (out .entry)) 0 (boundsText 0 (take n bounds)) (now (out .exit)) r) ⌝ }
 {
     let mut at: usize = 0;
     let mut i: u32 = 0;
     while i < n {
         let b = bounds[i as usize];
-        at = text::write_line(out, at, text::task_bound_line(i, b));
+        at = text::write_line(out, at, lines::task_bound_line(i, b));
         i += 1;
     }
     at
@@ -78,43 +85,43 @@ fn occupant_line(t: u32, who: Occupant, drops: u32) -> Line
     ensures { λ r. ⌜ r ≡ occupantLine t who drops ⌝ }
 {
     match who {
-        Occupant::Idle => text::tick_line(t, b'I', 0, drops),
-        Occupant::Task(i) => text::tick_line(t, b'T', i, drops),
-        Occupant::Request(id) => text::tick_line(t, b'A', id, drops),
+        Occupant::Idle => lines::tick_line(t, b'I', 0, drops),
+        Occupant::Task(i) => lines::tick_line(t, b'T', i, drops),
+        Occupant::Request(id) => lines::tick_line(t, b'A', id, drops),
     }
 }
 
-// The N line of a request that was refused.
-fn asked_line(out: &mut [u8], at: usize, t: u32, id: u32, answer: Checked) -> usize
-    requires { ⌜ at + 46 ≤ length (now out) ⌝ }
-    ensures { λ r. ⌜ (r ≤ at + 46) × (Wrote (now (out .entry)) at (askedText t id answer) (now (out .exit)) r) ⌝ }
+// What a request's answer prints: the N line of one that was refused.
+fn answer_line(out: &mut [u8], at: usize, t: u32, id: u32, answer: Checked) -> usize
+    requires { ⌜ at + lineRoom ≤ length (now out) ⌝ }
+    ensures { λ r. ⌜ (r ≤ at + lineRoom) × (Wrote (now (out .entry)) at (answerText t id answer) (now (out .exit)) r) ⌝ }
 {
     match answer {
         Checked::Passed => at,
         Checked::Refused(r) => {
             let n = r.number();
-            text::write_line(out, at, text::refused_line(t, id, n))
+            text::write_line(out, at, lines::refused_line(t, id, n))
         }
     }
 }
 
 // The F line of a tick that finished a request.
 fn finish_lines(out: &mut [u8], at: usize, t: u32, finish: Finish) -> usize
-    requires { ⌜ at + 46 ≤ length (now out) ⌝ }
-    ensures { λ r. ⌜ (r ≤ at + 46) × (Wrote (now (out .entry)) at (finishText t finish) (now (out .exit)) r) ⌝ }
+    requires { ⌜ at + lineRoom ≤ length (now out) ⌝ }
+    ensures { λ r. ⌜ (r ≤ at + lineRoom) × (Wrote (now (out .entry)) at (finishText t finish) (now (out .exit)) r) ⌝ }
 {
     match finish {
         Finish::Nothing => at,
         Finish::Finished { id, response } => {
-            text::write_line(out, at, text::finish_line(t, id, response))
+            text::write_line(out, at, lines::finish_line(t, id, response))
         }
     }
 }
 
 // The lines of a tick: X, then F if a request finished.
 fn tick_lines(out: &mut [u8], at: usize, t: u32, answer: TickAnswer) -> usize
-    requires { ⌜ at + 92 ≤ length (now out) ⌝ }
-    ensures { λ r. ⌜ (r ≤ at + 92) × (Wrote (now (out .entry)) at (tickText t answer) (now (out .exit)) r) ⌝ }
+    requires { ⌜ at + stepRoom ≤ length (now out) ⌝ }
+    ensures { λ r. ⌜ (r ≤ at + stepRoom) × (Wrote (now (out .entry)) at (tickText t answer) (now (out .exit)) r) ⌝ }
 {
     match answer {
         TickAnswer::Ran {
@@ -132,36 +139,26 @@ fn tick_lines(out: &mut [u8], at: usize, t: u32, answer: TickAnswer) -> usize
 
 // The server's B line and the V line.
 fn verdict_lines(out: &mut [u8], at: usize, serverbound: u32, admitted: bool) -> usize
-    requires { ⌜ at + 92 ≤ length (now out) ⌝ }
-    ensures { λ r. ⌜ (r ≤ at + 92) × (Wrote (now (out .entry)) at (verdictText serverbound admitted) (now (out .exit)) r) ⌝ }
+    requires { ⌜ at + stepRoom ≤ length (now out) ⌝ }
+    ensures { λ r. ⌜ (r ≤ at + stepRoom) × (Wrote (now (out .entry)) at (verdictText serverbound admitted) (now (out .exit)) r) ⌝ }
 {
-    let a = text::write_line(out, at, text::server_bound_line(serverbound));
-    text::write_line(out, a, text::admitted_line(admitted))
+    let a = text::write_line(out, at, lines::server_bound_line(serverbound));
+    text::write_line(out, a, lines::admitted_line(admitted))
 }
 
-// How many of n tasks a table holds.
-fn in_use(n: u32) -> u32
-    ensures { λ r. ⌜ (r ≤ 16) × (r ≤ n) × (n ≤ 16 → r ≡ n) × (16 ≤ n → r ≡ 16) ⌝ }
-{
-    if n < Table::MAX_TASKS {
-        n
-    } else {
-        Table::MAX_TASKS
-    }
-}
-
+// The lines of the head: of n tasks those that a table holds.
 fn head_lines(out: &mut [u8], n: u32, a: Admission) -> usize
-    requires { ⌜ 828 ≤ length (now out) ⌝ }
-    ensures { λ r. ⌜ (r ≤ 828) × (Wrote (now (out .entry)) 0 (headText n a) (now (out .exit)) r) ⌝ }
+    requires { ⌜ headRoom ≤ length (now out) ⌝ }
+    ensures { λ r. ⌜ (r ≤ headRoom) × (Wrote (now (out .entry)) 0 (headText n a) (now (out .exit)) r) ⌝ }
 {
     let bounds = a.bounds;
-    let at = bounds_lines(out, bounds, in_use(n));
+    let at = bounds_lines(out, bounds, lists::lesser(n, Table::MAX_TASKS));
     verdict_lines(out, at, a.serverbound, a.admitted)
 }
 
 // The head of an accepted plan's output, from the buffer's start: nothing where HEAD_ROOM bytes are not there.
 pub fn head(out: &mut [u8], table: Table) -> usize
-    ensures { λ r. ⌜ (r ≤ 828) × (Wrote (now (out .entry)) 0 (ifRoom 828 (now (out .entry)) 0 (headText (table .n) (admissionCall table))) (now (out .exit)) r) ⌝ }
+    ensures { λ r. ⌜ (r ≤ headRoom) × (Wrote (now (out .entry)) 0 (ifRoom headRoom (now (out .entry)) 0 (headText (table .n) (admissionCall table))) (now (out .exit)) r) ⌝ }
 {
     if out.len() < HEAD_ROOM {
         return 0;
@@ -176,25 +173,25 @@ pub fn first(plan: &[u8], table: Table) -> Place
 {
     Place {
         tick: 0,
-        next: plan::next_arrival(plan, 0),
+        next: reader::next_arrival(plan, 0),
         state: table.fresh(),
     }
 }
 
 // Presents the A line a, which is due; q is where the line after it starts.
 fn present(plan: &[u8], out: &mut [u8], at: usize, p: Place, a: Arrival, q: usize) -> Printed
-    requires { ⌜ at + 92 ≤ length (now out) ⌝ }
-    ensures { λ r. ⌜ (r .at ≤ at + 92) × (Wrote (now (out .entry)) at (askedText (p .tick) (a .id) (asked (p .state) a .answer)) (now (out .exit)) (r .at)) × (r .place ≡ record { tick = p .tick; next = nextFrom (now (plan .entry)) q; state = asked (p .state) a .state }) ⌝ }
+    requires { ⌜ at + stepRoom ≤ length (now out) ⌝ }
+    ensures { λ r. ⌜ (r .at ≤ at + stepRoom) × (Wrote (now (out .entry)) at (answerText (p .tick) (a .id) (arrivalCall (p .state) a .answer)) (now (out .exit)) (r .at)) × (r .place ≡ record { tick = p .tick; next = nextFrom (now (plan .entry)) q; state = arrivalCall (p .state) a .state }) ⌝ }
 {
     let state = p.state;
     let m = scheduler::request(state, a.id, a.work);
     let answer = m.answer;
     let moved = m.state;
-    let end = asked_line(out, at, p.tick, a.id, answer);
+    let end = answer_line(out, at, p.tick, a.id, answer);
     Printed {
         place: Place {
             tick: p.tick,
-            next: plan::next_arrival(plan, q),
+            next: reader::next_arrival(plan, q),
             state: moved,
         },
         at: end,
@@ -203,8 +200,8 @@ fn present(plan: &[u8], out: &mut [u8], at: usize, p: Place, a: Arrival, q: usiz
 
 // Runs a tick that no A line is due for any more.
 fn run_tick(out: &mut [u8], at: usize, p: Place) -> Printed
-    requires { ⌜ (at + 92 ≤ length (now out)) × (p .tick < 4294967295) ⌝ }
-    ensures { λ r. ⌜ (r .at ≤ at + 92) × (Wrote (now (out .entry)) at (tickText (p .tick) (tickCall (p .state) .answer)) (now (out .exit)) (r .at)) × (r .place ≡ record { tick = p .tick + 1; next = p .next; state = tickCall (p .state) .state }) ⌝ }
+    requires { ⌜ (at + stepRoom ≤ length (now out)) × (p .tick < maxNumber) ⌝ }
+    ensures { λ r. ⌜ (r .at ≤ at + stepRoom) × (Wrote (now (out .entry)) at (tickText (p .tick) (tickCall (p .state) .answer)) (now (out .exit)) (r .at)) × (r .place ≡ record { tick = p .tick + 1; next = p .next; state = tickCall (p .state) .state }) ⌝ }
 {
     let state = p.state;
     let next = p.next;
@@ -228,16 +225,22 @@ fn entry_line(t: u32, entry: Entry) -> Line
 {
     let kind = entry.kind;
     match kind {
-        0 => text::tick_line(t, b'I', entry.id, entry.drops),
-        1 => text::tick_line(t, b'T', entry.id, entry.drops),
-        _ => text::tick_line(t, b'A', entry.id, entry.drops),
+        0 => lines::tick_line(t, b'I', entry.id, entry.drops),
+        1 => lines::tick_line(t, b'T', entry.id, entry.drops),
+        _ => lines::tick_line(t, b'A', entry.id, entry.drops),
     }
 }
 
 // The X lines of k ticks from t on, from their record.
-fn block_lines(out: &mut [u8], at: usize, t: u32, entries: [Entry; 32], k: u32) -> usize
-    requires { ⌜ (k ≤ 32) × (t + k ≤ 4294967295) × (at + 1472 ≤ length (now out)) ⌝ }
-    ensures { λ r. ⌜ (r ≤ at + k * 46) × (Wrote (now (out .entry)) at (blockText t (take k entries)) (now (out .exit)) r) ⌝ }
+fn block_lines(
+    out: &mut [u8],
+    at: usize,
+    t: u32,
+    entries: [Entry; Recording::TICKS],
+    k: u32,
+) -> usize
+    requires { ⌜ (k ≤ blockTicks) × (t + k ≤ maxNumber) × (at + blockRoom ≤ length (now out)) ⌝ }
+    ensures { λ r. ⌜ (r ≤ at + k * lineRoom) × (Wrote (now (out .entry)) at (blockText t (take k entries)) (now (out .exit)) r) ⌝ }
 {
     let mut end = at;
     let mut i: u32 = 0;
@@ -249,7 +252,7 @@ fn block_lines(out: &mut [u8], at: usize, t: u32, entries: [Entry; 32], k: u32) 
     end
 }
 
-// How many ticks the head can be served and still wait; a block's 32 where none waits.
+// How many ticks the head can be served and still wait; as many as are run at once where none waits.
 fn unfinished(queue: Queue) -> u32
     ensures { λ r. ⌜ (0 < r → Unfinished (waitingOf queue) r) ⌝ }
 {
@@ -278,15 +281,6 @@ fn undisturbed(next: Next, tick: u32) -> u32
     }
 }
 
-fn least(a: u32, b: u32) -> u32
-    ensures { λ r. ⌜ (r ≤ a) × (r ≤ b) ⌝ }
-{
-    if a < b {
-        return a;
-    }
-    b
-}
-
 // How many ticks can be run at once: no A line is due before the last, and none of them finishes a request.
 fn free_ticks(ticks: u32, p: Place) -> u32
     requires { ⌜ p .tick < ticks ⌝ }
@@ -295,15 +289,15 @@ fn free_ticks(ticks: u32, p: Place) -> u32
     let state = p.state;
     let queue = state.queue;
     let next = p.next;
-    let few = least(BLOCK, ticks - p.tick);
-    let quiet = least(undisturbed(next, p.tick), unfinished(queue));
-    least(few, quiet)
+    let few = lists::lesser(BLOCK, ticks - p.tick);
+    let quiet = lists::lesser(undisturbed(next, p.tick), unfinished(queue));
+    lists::lesser(few, quiet)
 }
 
 // The same, or 0 where a block's X lines might not fit behind `at` in a buffer of n bytes.
 fn with_room(k: u32, n: usize, at: usize) -> u32
     requires { ⌜ at ≤ n ⌝ }
-    ensures { λ r. ⌜ (0 < r → (r ≡ k) × (at + 1472 ≤ n)) ⌝ }
+    ensures { λ r. ⌜ (0 < r → (r ≡ k) × (at + blockRoom ≤ n)) ⌝ }
 {
     if n - at < BLOCK_ROOM {
         return 0;
@@ -313,8 +307,8 @@ fn with_room(k: u32, n: usize, at: usize) -> u32
 
 // Runs k ticks at once.
 fn run_ticks(out: &mut [u8], at: usize, p: Place, k: u32) -> Printed
-    requires { ⌜ (0 < k) × (k ≤ 32) × (p .tick + k ≤ 4294967295) × (at + 1472 ≤ length (now out)) ⌝ }
-    ensures { λ r. ⌜ ((ticks : ℕ) → Free ticks p k → Ran ticks (now (out .entry)) at p (now (out .exit)) (r .at) (r .place)) ⌝ }
+    requires { ⌜ (0 < k) × (k ≤ blockTicks) × (p .tick + k ≤ maxNumber) × (at + blockRoom ≤ length (now out)) ⌝ }
+    ensures { λ r. ⌜ ((ticks : ℕ) → Free ticks p k → RanOn ticks (now (out .entry)) at p (now (out .exit)) (r .at) (r .place)) ⌝ }
 {
     let state = p.state;
     let next = p.next;
@@ -340,8 +334,8 @@ fn run_ticks(out: &mut [u8], at: usize, p: Place, k: u32) -> Printed
 
 // Runs ticks that no A line is due for any more: as many at once as can be, or one.
 fn run_on(ticks: u32, out: &mut [u8], at: usize, p: Place) -> Printed
-    requires { ⌜ (at + 92 ≤ length (now out)) × (p .tick < ticks) × NotDue (p .next) (p .tick) ⌝ }
-    ensures { λ r. ⌜ Ran ticks (now (out .entry)) at p (now (out .exit)) (r .at) (r .place) ⌝ }
+    requires { ⌜ (at + stepRoom ≤ length (now out)) × (p .tick < ticks) × NotDue (p .next) (p .tick) ⌝ }
+    ensures { λ r. ⌜ RanOn ticks (now (out .entry)) at p (now (out .exit)) (r .at) (r .place) ⌝ }
 {
     let k = with_room(free_ticks(ticks, p), out.len(), at);
     if k < 2 {
@@ -352,7 +346,7 @@ fn run_on(ticks: u32, out: &mut [u8], at: usize, p: Place) -> Printed
 
 // One step: an A line that is due, or else the tick.
 fn step(plan: &[u8], ticks: u32, out: &mut [u8], at: usize, p: Place) -> Printed
-    requires { ⌜ (at + 92 ≤ length (now out)) × (p .tick < ticks) ⌝ }
+    requires { ⌜ (at + stepRoom ≤ length (now out)) × (p .tick < ticks) ⌝ }
     ensures { λ r. ⌜ Stepped (now (plan .entry)) ticks (now (out .entry)) at p (now (out .exit)) (r .at) (r .place) ⌝ }
 {
     let next = p.next;

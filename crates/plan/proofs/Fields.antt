@@ -7,37 +7,38 @@ use native.Mathlib.Omega.{arith}
 use borrow.Author.Tests.{eq-eqb, ne-eqb, ltb-true, ltb-false}
 use lib.ListN.{length, getD, take, drop}
 use lib.Dec.{ltb, eqb}
+use Rattle.lists.specs.Search.{upTo}
 use Rattle.plan.specs.declared.Number.{Number}
 use Rattle.plan.specs.declared.Field.{Field}
 use Rattle.plan.specs.declared.Two.{Two}
 use Rattle.plan.specs.declared.Three.{Three}
 use Rattle.plan.specs.declared.Four.{Four}
 use Rattle.plan.specs.declared.Line.{Line}
-use Rattle.plan.specs.Text.{Pieces, end, piece, split, upTo, numberOf}
-use Rattle.plan.specs.Lines.{Numbers, wrong, are, push, joined, eachNumber, numbers, onward, oneOf, twoOf, threeOf, fourOf, oneIn, twoIn, threeIn, fourIn, andTwo, andThree, andFour, byLetter, lineOf, taskLine, serverLine, arrivalLine, runLine}
-use Rattle.plan.proofs.Laws.{part-more, part-last}
+use Rattle.plan.specs.Text.{Pieces, end, piece, split, readNumber}
+use Rattle.plan.specs.Lines.{Numbers, wrong, are, push, withField, eachNumber, numbers, onward, oneOf, twoOf, threeOf, fourOf, oneIn, twoIn, threeIn, fourIn, andTwo, andThree, andFour, byLetter, lineOf, taskLine, serverLine, arrivalLine, runLine}
+use Rattle.plan.specs.Search.{part-more, part-last}
 
 -- a field: e is where it ends, f what its bytes are
-module _ (s : List ℕ) (a e : ℕ) (found : e ≡ a + upTo 44 (drop a s)) (f : Number) (is : f ≡ numberOf (take (e - a) (drop a s))) where
-  more : e < length s → numbers (drop a s) ≡ joined f (numbers (drop (e + 1) s))
+module _ (s : List ℕ) (a e : ℕ) (found : e ≡ a + upTo 44 (drop a s)) (f : Number) (is : f ≡ readNumber (take (e - a) (drop a s))) where
+  more : e < length s → numbers (drop a s) ≡ withField f (numbers (drop (e + 1) s))
   unfolding numbers
-  more h = ap eachNumber (part-more 44 s a e found h) ∙ ap (λ (n : Number). joined n (eachNumber (split 44 (drop (e + 1) s)))) (sym is)
+  more h = ap eachNumber (part-more 44 s a e found h) ∙ ap (λ (n : Number). withField n (eachNumber (split 44 (drop (e + 1) s)))) (sym is)
 
-  last : length s ≤ e → numbers (drop a s) ≡ joined f (are [])
+  last : length s ≤ e → numbers (drop a s) ≡ withField f (are [])
   unfolding numbers
-  last h = ap eachNumber (part-last 44 s a e found h) ∙ ap (λ (n : Number). joined n (are [])) (sym is)
+  last h = ap eachNumber (part-last 44 s a e found h) ∙ ap (λ (n : Number). withField n (are [])) (sym is)
 
   pub field-more : (v : ℕ) → f ≡ Number.Is v → e < length s → onward s (Field.More v (e + 1)) (numbers (drop a s))
   unfolding onward
-  field-more v q h = (omega arith, more h ∙ ap (λ (n : Number). joined n (numbers (drop (e + 1) s))) q)
+  field-more v q h = (omega arith, more h ∙ ap (λ (n : Number). withField n (numbers (drop (e + 1) s))) q)
 
   pub field-last : (v : ℕ) → f ≡ Number.Is v → length s ≤ e → onward s (Field.Last v) (numbers (drop a s))
   unfolding onward
-  field-last v q h = last h ∙ ap (λ (n : Number). joined n (are [])) q
+  field-last v q h = last h ∙ ap (λ (n : Number). withField n (are [])) q
 
   wrong-at : (b : Bool) → ltb e (length s) ≡ b → f ≡ Number.Wrong → numbers (drop a s) ≡ wrong
-  wrong-at true t q = more (ltb-true _ _ t) ∙ ap (λ (n : Number). joined n (numbers (drop (e + 1) s))) q
-  wrong-at false t q = last (ltb-false _ _ t) ∙ ap (λ (n : Number). joined n (are [])) q
+  wrong-at true t q = more (ltb-true _ _ t) ∙ ap (λ (n : Number). withField n (numbers (drop (e + 1) s))) q
+  wrong-at false t q = last (ltb-false _ _ t) ∙ ap (λ (n : Number). withField n (are [])) q
 
   pub field-wrong : f ≡ Number.Wrong → onward s Field.Wrong (numbers (drop a s))
   unfolding onward
@@ -94,15 +95,15 @@ module _ (s : List ℕ) (r : Field) (ns : Numbers) (o : onward s r ns) where
   unfolding onward
   told-wrong e = subst (λ (x : Field). onward s x ns) e o
 
-  not-one : (v : ℕ) (n : Number) (ms : Numbers) → oneOf (push v (joined n ms)) ≡ Number.Wrong
+  not-one : (v : ℕ) (n : Number) (ms : Numbers) → oneOf (push v (withField n ms)) ≡ Number.Wrong
   unfolding oneOf
   not-one v Number.Wrong ms = refl
   not-one v (Number.Is w) wrong = refl
   not-one v (Number.Is w) (are vs) = refl
 
   not-one-in : (v : ℕ) (ps : Pieces) → oneOf (push v (eachNumber ps)) ≡ Number.Wrong
-  not-one-in v (end f) = not-one v (numberOf f) (are [])
-  not-one-in v (piece f fs) = not-one v (numberOf f) (eachNumber fs)
+  not-one-in v (end f) = not-one v (readNumber f) (are [])
+  not-one-in v (piece f fs) = not-one v (readNumber f) (eachNumber fs)
 
   pub one-more : (v n : ℕ) → r ≡ Field.More v n → Number.Wrong ≡ oneOf ns
   unfolding numbers

@@ -1,4 +1,4 @@
--- Laws of a plan's lines: whether a line may stand, one turn of the check, one turn of the walk over the A lines.
+-- Laws of a plan's lines: whether a line may stand, and one turn of the check.
 use Prim.Native.Nat.{ℕ, zero, suc, _+_, _-_, _≤_, _<_}
 use mathlib.Core.Path.{_≡_, refl, sym, ap, _∙_, subst}
 use mathlib.Core.List.{List, [], _∷_}
@@ -7,17 +7,19 @@ use mathlib.Core.Logic.{_⊎_, inl, inr, ⊎-elim}
 use native.Mathlib.Omega.{arith}
 use native.Mathlib.Numerals.{add-one}
 use borrow.Author.Tests.{lt-ltb, le-ltb, eq-eqb, ne-eqb, le-leb, lt-leb}
-use lib.ListN.{length, getD, take, drop, set, length-take, length-drop, drop-of-length-le}
+use lib.ListN.{length, take, drop, set, length-drop, drop-of-length-le}
 use lib.Seq.{drop-cons}
-use lib.Dec.{ltb, leb, eqb}
+use lib.Dec.{leb}
 use types.Run.{OneOf}
 use denote.Enum.Declared.{tagOf}
+use Rattle.lists.specs.Search.{upTo}
 use Rattle.plan.proofs.Line as line-type
 use Rattle.server.specs.declared.Server.{Server}
 use Rattle.table.specs.declared.Task.{Task}
 use Rattle.table.specs.declared.Table.{Table}
 use Rattle.table.specs.declared.Checked.{Checked}
-use Rattle.table.specs.declared.Refusal.{Refusal}
+use Rattle.queue.specs.Queue.{maxWork}
+use Rattle.table.specs.Limits.{maxTasks}
 use Rattle.table.specs.State.{tableCheck}
 use Rattle.plan.specs.declared.Arrival.{Arrival}
 use Rattle.plan.specs.declared.Answer.{Answer}
@@ -26,10 +28,10 @@ use Rattle.plan.specs.declared.Plan.{Plan}
 use Rattle.plan.specs.declared.Reading.{Reading}
 use Rattle.plan.specs.declared.Line.{Line}
 use Rattle.plan.specs.declared.Next.{Next}
-use Rattle.plan.specs.Text.{Pieces, end, piece, split, upTo}
+use Rattle.plan.specs.Text.{split}
 use Rattle.plan.specs.Lines.{lineOf}
-use Rattle.plan.specs.Plan.{freshReading, misplaced, badWork, judged, withTask, moved, refusedPlan, acceptedPlan, tabled, closing, ending, orElse, reads, planOf, orNext, nextIn, nextFrom}
-use Rattle.plan.proofs.Laws.{part-more, split-last}
+use Rattle.plan.specs.Plan.{freshReading, misplaced, badWork, judged, withTask, moved, refusedPlan, acceptedPlan, tabled, closing, ending, orElse, reads, maxBytes, planOf, orNext}
+use Rattle.plan.specs.Search.{part-more, split-last}
 
 -- whether a line may stand
 module _ (stage t : ℕ) (l : Line) where
@@ -69,11 +71,11 @@ module _ (stage t : ℕ) (l : Line) where
     unfolding judged
     arrival-falls h f q = q ∙ sym (ap (judged stage t) e ∙ simp (h, lt-leb _ _ f))
 
-    pub arrival-work : stage ≡ 1 → t ≤ a .tick → (leb 1 (a .work) && leb (a .work) 60000) ≡ false → {r : Answer} → r ≡ badWork → r ≡ judged stage t l
+    pub arrival-work : stage ≡ 1 → t ≤ a .tick → (leb 1 (a .work) && leb (a .work) maxWork) ≡ false → {r : Answer} → r ≡ badWork → r ≡ judged stage t l
     unfolding judged
     arrival-work h f w q = q ∙ sym (ap (judged stage t) e ∙ simp (h, le-leb _ _ f, w))
 
-    pub arrival-in : stage ≡ 1 → t ≤ a .tick → (leb 1 (a .work) && leb (a .work) 60000) ≡ true → Answer.Accepted ≡ judged stage t l
+    pub arrival-in : stage ≡ 1 → t ≤ a .tick → (leb 1 (a .work) && leb (a .work) maxWork) ≡ true → Answer.Accepted ≡ judged stage t l
     unfolding judged
     arrival-in h f w = sym (ap (judged stage t) e ∙ simp (h, le-leb _ _ f, w))
 
@@ -82,11 +84,11 @@ unfolding judged
 bad-line stage t l e = sym (ap (judged stage t) e)
 
 -- the reading after a line
-pub task-kept : (t : Table) (x : Task) → t .n < 16 → record { tasks = set (t .tasks) (t .n) x; n = t .n + 1; server = t .server } ≡ withTask t x
+pub task-kept : (t : Table) (x : Task) → t .n < maxTasks → record { tasks = set (t .tasks) (t .n) x; n = t .n + 1; server = t .server } ≡ withTask t x
 unfolding withTask
 task-kept t x h = simp (lt-ltb _ _ h)
 
-pub task-over : (t : Table) (x : Task) → 16 ≤ t .n → record { tasks = t .tasks; n = 17; server = t .server } ≡ withTask t x
+pub task-over : (t : Table) (x : Task) → maxTasks ≤ t .n → record { tasks = t .tasks; n = maxTasks + 1; server = t .server } ≡ withTask t x
 unfolding withTask
 task-over t x h = simp (le-ltb _ _ h)
 
@@ -107,11 +109,11 @@ module _ (st : Reading) (line : ℕ) (r : Plan) where
   closed h k c e q p = p ∙ ap (λ (x : Checked). tabled x (st .table) (st .ticks)) (sym q ∙ e) ∙ sym (closed-by h)
 
 -- a turn of the check, in a text t at a place
-pub too-big : (t : List ℕ) (r : Plan) → 65536 < length t → r ≡ refusedPlan PlanRefusal.TooLong 0 → r ≡ planOf t
+pub too-big : (t : List ℕ) (r : Plan) → maxBytes < length t → r ≡ refusedPlan PlanRefusal.TooLong 0 → r ≡ planOf t
 unfolding planOf
 too-big t r h e = e ∙ sym (simp (lt-ltb _ _ h))
 
-pub first-line : (t : List ℕ) (b : Reading) → length t ≤ 65536 → b ≡ freshReading → planOf t ≡ reads b 1 (split 10 t)
+pub first-line : (t : List ℕ) (b : Reading) → length t ≤ maxBytes → b ≡ freshReading → planOf t ≡ reads b 1 (split 10 t)
 unfolding planOf
 first-line t b h e = simp (le-ltb _ _ h, e)
 
@@ -143,33 +145,6 @@ module _ (t : List ℕ) (st : Reading) (at n line : ℕ) (len : n ≡ length t) 
       goes z next q =
           turn ∙ ap (λ (x : Answer). orElse x line (reads (moved st l) (suc line) (split 10 (drop (e + 1) t)))) z
           ∙ rw (q, add-one line) refl
-
--- a turn of the walk over the arrivals
-module _ (t : List ℕ) (at n : ℕ) (len : n ≡ length t) where
-  pub walk-end : n ≤ at → nextFrom t at ≡ Next.Done
-  unfolding nextFrom nextIn split
-  walk-end h = let k : length t ≤ at = omega arith in rw (drop-of-length-le t k) refl
-
-  module _ (e : ℕ) (below : at < n) (found : e ≡ at + upTo 10 (drop at t)) where
-    pub walk-last : n ≤ e → nextFrom t at ≡ Next.Done
-    unfolding nextFrom nextIn
-    walk-last h =
-        let k : length (drop at t) ≤ upTo 10 (drop at t) = omega (arith, length-drop at t) in
-        ap (nextIn at) (split-last 10 (drop at t) k)
-
-    module _ (more : e < n) (l : Line) (parsed : l ≡ lineOf (take (e - at) (drop at t))) where
-      walk-in : e < length t
-      walk-in = omega arith
-
-      wide-line : at + length (take (e - at) (drop at t)) + 1 ≡ e + 1
-      wide-line = omega (arith, length-take (e - at) (drop at t), length-drop at t)
-
-      pub walk-line : nextFrom t at ≡ orNext l (e + 1) (nextFrom t (e + 1))
-      unfolding nextFrom nextIn
-      walk-line = ap (nextIn at) (part-more 10 t at e found walk-in) ∙ simp (sym parsed, wide-line)
-
-      pub walk-found : (a : Arrival) → l ≡ Line.A a → nextFrom t at ≡ Next.Found a (e + 1)
-      walk-found a q = walk-line ∙ ap (λ (x : Line). orNext x (e + 1) (nextFrom t (e + 1))) q
 
 -- a line that is no A line, by its tag
 pub passed : (l : Line) (p : ℕ) (x : Next) → OneOf (0 ∷ 1 ∷ 3 ∷ 4 ∷ []) (tagOf line-type.the-type l) → orNext l p x ≡ x

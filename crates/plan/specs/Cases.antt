@@ -36,7 +36,7 @@ earlier-wins : planOf (65 ∷ 44 ∷ 48 ∷ 44 ∷ 48 ∷ 44 ∷ 49 ∷ 10 ∷ 8
 unfolding rules
 earlier-wins = refl
 
--- ---- On one line 8 comes before 9, and 9 before 4.
+-- ---- On one line 8 comes before 9, and 9 before 4, after R too; an R line above its limit is 8.
 -- `A,x,1,1\n`
 bad-before-misplaced : planOf (65 ∷ 44 ∷ 120 ∷ 44 ∷ 49 ∷ 44 ∷ 49 ∷ 10 ∷ []) ≡ refusedPlan PlanRefusal.BadLine 1
 unfolding rules

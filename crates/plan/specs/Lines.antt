@@ -11,24 +11,27 @@ use Rattle.plan.specs.declared.Two.{Two}
 use Rattle.plan.specs.declared.Three.{Three}
 use Rattle.plan.specs.declared.Four.{Four}
 use Rattle.plan.specs.declared.Line.{Line}
-use Rattle.plan.specs.Text.{Pieces, end, piece, split, numberOf}
+use Rattle.plan.specs.Text.{Pieces, end, piece, split, readNumber}
 
 -- the numbers of a run of fields, or that one is wrong
 pub data Numbers : Type 0 where
   wrong : Numbers
   are : List ℕ → Numbers
 
+-- a number more in front
 abbrev pub push : ℕ → Numbers → Numbers
 push v wrong = wrong
 push v (are vs) = are (v ∷ vs)
 
-abbrev pub joined : Number → Numbers → Numbers
-joined (Number.Is v) ns = push v ns
-joined Number.Wrong ns = wrong
+-- the same of a field that may be wrong
+abbrev pub withField : Number → Numbers → Numbers
+withField (Number.Is v) ns = push v ns
+withField Number.Wrong ns = wrong
 
+-- the number of each piece
 abbrev pub eachNumber : Pieces → Numbers
-eachNumber (end f) = joined (numberOf f) (are [])
-eachNumber (piece f fs) = joined (numberOf f) (eachNumber fs)
+eachNumber (end f) = withField (readNumber f) (are [])
+eachNumber (piece f fs) = withField (readNumber f) (eachNumber fs)
 
 -- "Fields in fixed order parted by commas"
 unfoldable pub numbers : List ℕ → Numbers
@@ -101,14 +104,16 @@ abbrev pub arrivalLine : Three → Line
 arrivalLine (Three.Are t i w) = Line.A (record { tick = t; id = i; work = w })
 arrivalLine Three.Wrong = Line.Bad
 
+-- "R,ticks, at most 1,000,000"
 abbrev pub maxTicks : ℕ
 maxTicks = 1_000_000
 
--- "R,ticks, at most 1,000,000": above it the line is bad
+-- an R line; above the limit it is bad
 abbrev pub runLine : Number → Line
 runLine (Number.Is n) = cond (leb n maxTicks) (Line.R n) Line.Bad
 runLine Number.Wrong = Line.Bad
 
+-- a line by its letter: `T`, `S`, `A`, `R`
 unfoldable pub byLetter : ℕ → Numbers → Line
 byLetter c ns =
     cond (eqb c 84) (taskLine (fourOf ns))

@@ -20,7 +20,7 @@ use Rattle.plan.specs.declared.Answer.{Answer}
 use Rattle.plan.specs.declared.Reading.{Reading}
 use Rattle.plan.specs.declared.Plan.{Plan}
 use Rattle.plan.specs.declared.Next.{Next}
-use Rattle.plan.specs.Text.{Pieces, end, piece, split, numberTests, numberOf}
+use Rattle.plan.specs.Text.{Pieces, end, piece, split, numberTests, readNumber}
 use Rattle.plan.specs.Lines.{lineOf, numbers, oneOf, twoOf, threeOf, fourOf, byLetter}
 
 -- a table with nothing in it
@@ -35,10 +35,11 @@ blank = record {
 unfoldable pub freshReading : Reading
 freshReading = record { stage = 0; table = blank; tick = 0; ticks = 0 }
 
--- "9 line misplaced", "4 bad work: work 0 or above 60,000", "8 bad line"
+-- "9 line misplaced"
 abbrev pub misplaced : Answer
 misplaced = Answer.Refused PlanRefusal.Misplaced
 
+-- "4 bad work: work 0 or above 60,000"
 abbrev pub badWork : Answer
 badWork = Answer.Refused (PlanRefusal.Call Refusal.BadWork)
 
@@ -150,5 +151,5 @@ unrolled text Next.Done = []
 
 -- all of the definitions open, to compute with
 unfoldable pub rules : Unit {0}
-unfolding digits valueFrom split numberTests numberOf numbers oneOf twoOf threeOf fourOf byLetter lineOf blank freshReading judged withTask moved refusedPlan acceptedPlan tabled closing ending reads planOf arrivals arrivalsFrom nextIn nextFrom unrolled
+unfolding digits valueFrom split numberTests readNumber numbers oneOf twoOf threeOf fourOf byLetter lineOf blank freshReading judged withTask moved refusedPlan acceptedPlan tabled closing ending reads planOf arrivals arrivalsFrom nextIn nextFrom unrolled
 rules = tt

@@ -188,21 +188,6 @@ arrivals-in : (xs : List Task) (s : Server) (rest : List Arrival) (n : ℕ) → 
 arrivals-in [] s rest n = requests-in rest n
 arrivals-in (x ∷ xs) s rest n = arrivals-in xs s rest n
 
-module _ (xs : List Task) (s : Server) (rest : List Arrival) (n : ℕ) (fits : LinesFit (planLines xs s rest n)) where
-  -- the plan of these fields
-  abbrev pub planText : List ℕ
-  planText = linesText (planLines xs s rest n)
-
-  pub plan-back : length planText ≤ maxBytes → InOrder 0 rest → tableCheck (tableOf xs s) ≡ Checked.Passed → planOf planText ≡ acceptedPlan (tableOf xs s) n
-  unfolding planOf freshReading tabled
-  plan-back h o e =
-      ap (λ (b : Bool). cond b (refusedPlan PlanRefusal.TooLong 0) (reads freshReading 1 (split 10 planText))) (le-ltb _ _ h)
-      ∙ lines-back freshReading 1 (planLines xs s rest n) fits ∙ tasks-read blank 0 0 1 xs s rest n o ∙ ap (λ (k : Checked). tabled k (tableOf xs s) n) e
-
-  pub arrivals-back : arrivalsFrom planText 0 ≡ rest
-  unfolding arrivalsFrom
-  arrivals-back = lines-arrivals (planLines xs s rest n) fits ∙ arrivals-in xs s rest n
-
 -- ---- the table's tasks are those that were printed
 take-set : (l : List Task) (i : ℕ) (x : Task) → i < length l → take (suc i) (set l i x) ≡ take i l ++ x ∷ []
 take-set [] i x h = absurd (omega arith)
@@ -237,10 +222,35 @@ tasks-after (x ∷ xs) t len h =
           ∙ ap (λ (l : List Task). l ++ xs) (take-set (t .tasks) (t .n) x inside) ∙ append-assoc (take (t .n) (t .tasks)) (x ∷ []) xs,
     )
 
-pub tasks-back :
+tasks-back :
     (xs : List Task) (s : Server) → length xs ≤ maxTasks → (tableOf xs s .n ≡ length xs) × (take (length xs) (tableOf xs s .tasks) ≡ xs)
 unfolding blank
 tasks-back xs s h =
     let none : 0 + length xs ≡ length xs = omega arith in
     let after = tasks-after xs blank refl (omega arith) in
     (after .0 ∙ none, ap (λ (k : ℕ). take k (withTasks blank xs .tasks)) (sym none) ∙ after .1)
+
+-- ---- the whole
+-- what is read back of a plan's text: the plan of its fields, the requests, and the tasks, as many as a table holds
+pub record Back (xs : List Task) (s : Server) (rest : List Arrival) (n : ℕ) (text : List ℕ) : Type 0 where
+  pub plan : planOf text ≡ acceptedPlan (tableOf xs s) n
+  pub requests : arrivalsFrom text 0 ≡ rest
+  pub tasks : length xs ≤ maxTasks → (tableOf xs s .n ≡ length xs) × (take (length xs) (tableOf xs s .tasks) ≡ xs)
+
+module _ (xs : List Task) (s : Server) (rest : List Arrival) (n : ℕ) (fits : LinesFit (planLines xs s rest n)) where
+  -- the plan of these fields
+  abbrev pub planText : List ℕ
+  planText = linesText (planLines xs s rest n)
+
+  plan-read : length planText ≤ maxBytes → InOrder 0 rest → tableCheck (tableOf xs s) ≡ Checked.Passed → planOf planText ≡ acceptedPlan (tableOf xs s) n
+  unfolding planOf freshReading tabled
+  plan-read h o e =
+      ap (λ (b : Bool). cond b (refusedPlan PlanRefusal.TooLong 0) (reads freshReading 1 (split 10 planText))) (le-ltb _ _ h)
+      ∙ lines-back freshReading 1 (planLines xs s rest n) fits ∙ tasks-read blank 0 0 1 xs s rest n o ∙ ap (λ (k : Checked). tabled k (tableOf xs s) n) e
+
+  requests-back : arrivalsFrom planText 0 ≡ rest
+  unfolding arrivalsFrom
+  requests-back = lines-arrivals (planLines xs s rest n) fits ∙ arrivals-in xs s rest n
+
+  pub plan-back : length planText ≤ maxBytes → InOrder 0 rest → tableCheck (tableOf xs s) ≡ Checked.Passed → Back xs s rest n planText
+  plan-back h o e = record { plan = plan-read h o e; requests = requests-back; tasks = tasks-back xs s }

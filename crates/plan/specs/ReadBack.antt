@@ -10,23 +10,23 @@ use lib.Dec.{leb, eqb}
 use Rattle.lists.specs.Tests.{every, facts-every, and-split, never}
 use Rattle.server.specs.declared.Server.{Server}
 use Rattle.table.specs.declared.Task.{Task}
-use Rattle.text.specs.Decimal.{decimal, isDigit, digits, valueFrom}
+use Rattle.text.specs.Decimal.{maxDigits, decimal, isDigit, digits, valueFrom}
 use Rattle.text.specs.ReadBack.{decimal-short, decimal-some, decimal-digits, decimal-value, decimal-leads}
 use Rattle.plan.specs.declared.Number.{Number}
 use Rattle.plan.specs.declared.Arrival.{Arrival}
 use Rattle.plan.specs.declared.Line.{Line}
-use Rattle.plan.specs.Text.{Pieces, end, piece, grow, split, maxNumber, numberTests, numberOf}
-use Rattle.plan.specs.Lines.{Numbers, are, push, joined, eachNumber, numbers, oneOf, threeOf, fourOf, maxTicks, byLetter, lineOf}
+use Rattle.plan.specs.Text.{Pieces, end, piece, grow, split, maxNumber, numberTests, readNumber}
+use Rattle.plan.specs.Lines.{Numbers, are, push, withField, eachNumber, numbers, oneOf, threeOf, fourOf, maxTicks, byLetter, lineOf}
 
 -- ---- a number
-leads-test : (x : ℕ) → x < 10 ^ 10 → (b : Bool) → eqb (getD (decimal x) 0 0) 48 ≡ b → cond b (eqb (length (decimal x)) 1) true ≡ true
+leads-test : (x : ℕ) → x < 10 ^ maxDigits → (b : Bool) → eqb (getD (decimal x) 0 0) 48 ≡ b → cond b (eqb (length (decimal x)) 1) true ≡ true
 leads-test x h true e = eq-eqb _ _ (decimal-leads x h (eqb-true _ _ e))
 leads-test x h false e = refl
 
-pub number-back : (x : ℕ) → x ≤ maxNumber → numberOf (decimal x) ≡ Number.Is x
-unfolding numberOf numberTests
+pub number-back : (x : ℕ) → x ≤ maxNumber → readNumber (decimal x) ≡ Number.Is x
+unfolding readNumber numberTests
 number-back x h =
-    let k : x < 10 ^ 10 = omega arith in
+    let k : x < 10 ^ maxDigits = omega arith in
     let m : valueFrom 0 (decimal x) ≤ maxNumber = omega (arith, decimal-value x k) in
     let passes : every (numberTests (decimal x)) ≡ true = facts-every (numberTests (decimal x))
     (le-leb _ _ (decimal-some x), (le-leb _ _ (decimal-short x), (leads-test x k (eqb (getD (decimal x) 0 0) 48) refl, (decimal-digits x, (le-leb _ _ m, tt))))) in
@@ -71,10 +71,10 @@ AllFit v (w ∷ vs) = (v ≤ maxNumber) × AllFit w vs
 pub fields-back : (v : ℕ) (vs : List ℕ) → AllFit v vs → numbers (fields v vs) ≡ are (v ∷ vs)
 unfolding numbers
 fields-back v [] h =
-    ap eachNumber (digits-last 44 (omega arith) (decimal v) (decimal-digits v)) ∙ ap (λ (n : Number). joined n (are [])) (number-back v h)
+    ap eachNumber (digits-last 44 (omega arith) (decimal v) (decimal-digits v)) ∙ ap (λ (n : Number). withField n (are [])) (number-back v h)
 fields-back v (w ∷ vs) h =
     ap eachNumber (digits-then 44 (omega arith) (decimal v) (fields w vs) (decimal-digits v))
-    ∙ ap (λ (n : Number). joined n (eachNumber (split 44 (fields w vs)))) (number-back v (h .0))
+    ∙ ap (λ (n : Number). withField n (eachNumber (split 44 (fields w vs)))) (number-back v (h .0))
     ∙ ap (push v) (fields-back w vs (h .1))
 
 -- ---- lines: "T,f,p,e,D", "S,kind,s,P,B", "A,tick,id,work", "R,ticks"

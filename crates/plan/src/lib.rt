@@ -1,8 +1,8 @@
-// The plan text: numbers, fields, lines, the check of a whole plan, and the walk over its requests.
+// The plan text: numbers, fields, lines, the check of a whole plan, and the search for its A lines.
 ghost use mathlib.Core.Path.{_≡_};
 ghost use Prim.Native.Nat.{ℕ, _+_, _-_, _<_, _≤_};
 ghost use lib.ListN.{length, take, drop};
-ghost use Rattle.plan.specs.Text.{upTo, numberOf};
+ghost use Rattle.plan.specs.Text.{readNumber};
 ghost use Rattle.plan.specs.Lines.{numbers, onward, oneOf, twoOf, threeOf, fourOf, lineOf, taskLine, serverLine, arrivalLine, runLine};
 ghost use Rattle.plan.specs.Refusal.{number};
 ghost use Rattle.plan.specs.Plan.{blank, freshReading, judged, withTask, moved, refusedPlan, closing, planOf, nextFrom};
@@ -25,16 +25,19 @@ pub enum Field {
     Wrong,
 }
 
+// Two numbers of a line, or fields that are not two.
 pub enum Two {
     Are(u32, u32),
     Wrong,
 }
 
+// Three of them.
 pub enum Three {
     Are(u32, u32, u32),
     Wrong,
 }
 
+// Four of them.
 pub enum Four {
     Are(u32, u32, u32, u32),
     Wrong,
@@ -64,6 +67,7 @@ pub enum PlanRefusal {
     Call(Refusal),
 }
 
+// Whether a line, or a plan, is accepted.
 pub enum Answer {
     Accepted,
     Refused(PlanRefusal),
@@ -97,21 +101,13 @@ pub const MAX_TICKS: u32 = 1000000;
 // "plan too long: above 65,536 bytes"
 pub const MAX_BYTES: usize = 65536;
 
-// The place of the first `byte` from `from` on, or the length.
-fn find(s: &[u8], from: usize, byte: u8) -> usize
-    requires { ⌜ from ≤ length (now s) ⌝ }
-    ensures { λ r. ⌜ (r ≤ length (now (s .entry))) × (r ≡ from + upTo byte (drop from (now (s .entry)))) ⌝ }
-{
-    let mut i = from;
-    while i < s.len() {
-        if s[i] == byte {
-            return i;
-        }
-        i += 1;
-    }
-    i
-}
+// "at most 4,294,967,295"
+const MAX_NUMBER: u64 = 4294967295;
 
+// How many tasks a table counts whose plan has too many.
+const TOO_MANY: u32 = Table::MAX_TASKS + 1;
+
+// A byte as a wider number.
 fn wide(b: u8) -> u64
     ensures { λ r. ⌜ r ≡ b ⌝ }
 {
@@ -119,14 +115,14 @@ fn wide(b: u8) -> u64
 }
 
 // The one rule for a number, of every field.
-pub fn read_number(s: &[u8]) -> Number
-    ensures { λ r. ⌜ r ≡ numberOf (now (s .entry)) ⌝ }
+fn read_number(s: &[u8]) -> Number
+    ensures { λ r. ⌜ r ≡ readNumber (now (s .entry)) ⌝ }
 {
     let n = s.len();
     if n == 0 {
         return Number::Wrong;
     }
-    if 10 < n {
+    if text::MAX_DIGITS < n {
         return Number::Wrong;
     }
     if s[0] == 48 {
@@ -147,7 +143,7 @@ pub fn read_number(s: &[u8]) -> Number
         }
         let d = wide(b);
         v = v * 10 + (d - 48);
-        if 4294967295 < v {
+        if MAX_NUMBER < v {
             return Number::Wrong;
         }
         i += 1;
@@ -160,7 +156,7 @@ fn read_field(s: &[u8], a: usize) -> Field
     requires { ⌜ a ≤ length (now s) ⌝ }
     ensures { λ r. ⌜ onward (now (s .entry)) r (numbers (drop a (now (s .entry)))) ⌝ }
 {
-    let e = find(s, a, 44);
+    let e = lists::find(s, a, 44);
     match read_number(&s[a..e]) {
         Number::Is(v) => {
             if e < s.len() {
@@ -176,6 +172,7 @@ fn read_field(s: &[u8], a: usize) -> Field
     }
 }
 
+// The numbers from `a` on, where there is exactly one.
 fn read_one(s: &[u8], a: usize) -> Number
     requires { ⌜ a ≤ length (now s) ⌝ }
     ensures { λ r. ⌜ r ≡ oneOf (numbers (drop a (now (s .entry)))) ⌝ }
@@ -187,6 +184,7 @@ fn read_one(s: &[u8], a: usize) -> Number
     }
 }
 
+// The same, where there are exactly two.
 fn read_two(s: &[u8], a: usize) -> Two
     requires { ⌜ a ≤ length (now s) ⌝ }
     ensures { λ r. ⌜ r ≡ twoOf (numbers (drop a (now (s .entry)))) ⌝ }
@@ -201,6 +199,7 @@ fn read_two(s: &[u8], a: usize) -> Two
     }
 }
 
+// The same, where there are exactly three.
 fn read_three(s: &[u8], a: usize) -> Three
     requires { ⌜ a ≤ length (now s) ⌝ }
     ensures { λ r. ⌜ r ≡ threeOf (numbers (drop a (now (s .entry)))) ⌝ }
@@ -215,6 +214,7 @@ fn read_three(s: &[u8], a: usize) -> Three
     }
 }
 
+// The same, where there are exactly four.
 fn read_four(s: &[u8], a: usize) -> Four
     requires { ⌜ a ≤ length (now s) ⌝ }
     ensures { λ r. ⌜ r ≡ fourOf (numbers (drop a (now (s .entry)))) ⌝ }
@@ -229,6 +229,7 @@ fn read_four(s: &[u8], a: usize) -> Four
     }
 }
 
+// "T,f,p,e,D"
 fn task_line(n: Four) -> Line
     ensures { λ r. ⌜ r ≡ taskLine n ⌝ }
 {
@@ -243,6 +244,7 @@ fn task_line(n: Four) -> Line
     }
 }
 
+// "S,kind,s,P,B"
 fn server_line(n: Four) -> Line
     ensures { λ r. ⌜ r ≡ serverLine n ⌝ }
 {
@@ -257,6 +259,7 @@ fn server_line(n: Four) -> Line
     }
 }
 
+// "A,tick,id,work"
 fn arrival_line(n: Three) -> Line
     ensures { λ r. ⌜ r ≡ arrivalLine n ⌝ }
 {
@@ -270,6 +273,7 @@ fn arrival_line(n: Three) -> Line
     }
 }
 
+// "R,ticks"
 fn run_line(n: Number) -> Line
     ensures { λ r. ⌜ r ≡ runLine n ⌝ }
 {
@@ -286,7 +290,7 @@ fn run_line(n: Number) -> Line
 }
 
 // "each line is parsed as the stretch of the plan from its own first byte", without its line feed
-pub fn parse(s: &[u8]) -> Line
+fn parse(s: &[u8]) -> Line
     ensures { λ r. ⌜ r ≡ lineOf (now (s .entry)) ⌝ }
 {
     if s.len() < 2 {
@@ -316,7 +320,7 @@ fn no_table() -> Table
         deadline: 0,
     };
     Table {
-        tasks: [none; 16],
+        tasks: [none; Table::MAX_TASKS as usize],
         n: 0,
         server: Server {
             kind: 0,
@@ -327,6 +331,7 @@ fn no_table() -> Table
     }
 }
 
+// The reading before the first line.
 fn begin() -> Reading
     ensures { λ r. ⌜ r ≡ freshReading ⌝ }
 {
@@ -338,12 +343,14 @@ fn begin() -> Reading
     }
 }
 
+// "9 line misplaced"
 fn misplaced() -> Answer
     ensures { λ r. ⌜ r ≡ Answer.Refused PlanRefusal.Misplaced ⌝ }
 {
     Answer::Refused(PlanRefusal::Misplaced)
 }
 
+// "4 bad work"
 fn bad_work() -> Answer
     ensures { λ r. ⌜ r ≡ Answer.Refused (PlanRefusal.Call Refusal.BadWork) ⌝ }
 {
@@ -400,11 +407,12 @@ fn with_task(t: Table, x: Task) -> Table
         next
     } else {
         let mut next = t;
-        next.n = 17;
+        next.n = TOO_MANY;
         next
     }
 }
 
+// The table with a server.
 fn with_server(t: Table, s: Server) -> Table
     ensures { λ r. ⌜ r ≡ record { tasks = t .tasks; n = t .n; server = s } ⌝ }
 {
@@ -447,6 +455,7 @@ fn step(st: Reading, l: Line) -> Reading
     }
 }
 
+// A refused plan.
 fn refuse(k: PlanRefusal, line: u32) -> Plan
     ensures { λ r. ⌜ r ≡ refusedPlan k line ⌝ }
 {
@@ -489,7 +498,7 @@ pub fn check(plan: &[u8]) -> Plan
     let mut at: usize = 0;
     let mut line: u32 = 1;
     while at < n {
-        let e = find(plan, at, 10);
+        let e = lists::find(plan, at, 10);
         if n <= e {
             return refuse(PlanRefusal::BadLine, line);
         }
@@ -518,14 +527,14 @@ pub fn refusal_number(r: PlanRefusal) -> u32
     }
 }
 
-// The first A line from a position on.
-pub fn next_arrival(plan: &[u8], from: usize) -> Next
+// The first A line from a position on: what the plan reader calls.
+pub fn first_arrival(plan: &[u8], from: usize) -> Next
     ensures { λ r. ⌜ r ≡ nextFrom (now (plan .entry)) from ⌝ }
 {
     let n = plan.len();
     let mut at = from;
     while at < n {
-        let e = find(plan, at, 10);
+        let e = lists::find(plan, at, 10);
         if n <= e {
             return Next::Done;
         }

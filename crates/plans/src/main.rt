@@ -2,22 +2,16 @@
 // Prints each name on a line of its own, then what `schedule` prints of the plan.
 ghost use Prim.Native.Nat.{ℕ, _≤_};
 ghost use lib.ListN.{length};
+ghost use Rattle.output.specs.Rooms.{headRoom};
 use plan::Answer;
 
-// The place of the first `byte` from `from` on, or the length.
-fn find(s: &[u8], from: usize, byte: u8) -> usize
-    requires { ⌜ from ≤ length (now s) ⌝ }
-    ensures { λ r. ⌜ (from ≤ r) × (r ≤ length (now (s .entry))) ⌝ }
-{
-    let mut i = from;
-    while i < s.len() {
-        if s[i] == byte {
-            return i;
-        }
-        i += 1;
-    }
-    i
-}
+// The buffers for the cases and for what one of them prints.
+const CASES_BYTES: usize = 65536;
+
+const OUT_BYTES: usize = 65536;
+
+// One byte more than a plan may have.
+const LONG_BYTES: usize = plan::MAX_BYTES + 1;
 
 // Writes the bytes of s from `from` up to `to`.
 fn write_part(s: &[u8], from: usize, to: usize)
@@ -28,7 +22,7 @@ fn write_part(s: &[u8], from: usize, to: usize)
 
 // Prints what fits into the buffer of what is printed of a plan: of these plans, all.
 fn print(text: &[u8], out: &mut [u8])
-    requires { ⌜ 828 ≤ length (now out) ⌝ }
+    requires { ⌜ headRoom ≤ length (now out) ⌝ }
 {
     let r = plan::check(text);
     let answer = r.answer;
@@ -49,17 +43,17 @@ fn print(text: &[u8], out: &mut [u8])
 }
 
 fn print_cases(all: &[u8], out: &mut [u8])
-    requires { ⌜ 828 ≤ length (now out) ⌝ }
+    requires { ⌜ headRoom ≤ length (now out) ⌝ }
 {
     let n = all.len();
     let mut at: usize = 0;
     while at < n {
-        let colon = find(all, at, b':');
+        let colon = lists::find(all, at, b':');
         if n <= colon {
             return;
         }
         let start = colon + 1;
-        let end = find(all, start, b';');
+        let end = lists::find(all, start, b';');
         write_part(all, at, colon);
         io::write_all(1, b"\n");
         print(&all[start..end], out);
@@ -71,13 +65,13 @@ fn print_cases(all: &[u8], out: &mut [u8])
 }
 
 fn main() {
-    let mut all = [0u8; 65536];
-    let mut out = [0u8; 65536];
+    let mut all = [0u8; CASES_BYTES];
+    let mut out = [0u8; OUT_BYTES];
     let n = io::read_full(0, &mut all);
     print_cases(&all[..n], &mut out);
-    let long = [10u8; 65537];
+    let long = [10u8; LONG_BYTES];
     io::write_all(1, b"65537 bytes\n");
     print(&long, &mut out);
     io::write_all(1, b"65536 bytes\n");
-    print(&long[..65536], &mut out);
+    print(&long[..plan::MAX_BYTES], &mut out);
 }

@@ -1,14 +1,14 @@
 -- Cases of the queue's rules, worked out apart from the definitions.
 use Prim.Native.Nat.{ℕ}
 use mathlib.Core.Path.{_≡_, refl}
-use mathlib.Core.Bool.{Bool, true, false}
-use mathlib.Core.List.{List, [], _∷_, map}
+use mathlib.Core.Bool.{true, false}
+use mathlib.Core.List.{[], _∷_, map}
 use lib.ListN.{length}
 use Rattle.lists.specs.Lists.{overlay}
 use Rattle.queue.specs.declared.Request.{Request}
 use Rattle.queue.specs.declared.Queue.{Queue}
 use Rattle.queue.specs.declared.Finish.{Finish}
-use Rattle.queue.specs.Queue.{maxWaiting, workFits, waitingOf, queueWith, freshQueue, waits, headId, presented, served, finished, requestFits, requestsFit}
+use Rattle.queue.specs.Queue.{workFits, waitingOf, queueWith, freshQueue, waits, headId, presented, served, finished, requestFits, requestsFit}
 
 -- id, work left, arrival
 abbrev ask : ℕ → ℕ → ℕ → Request

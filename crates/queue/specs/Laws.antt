@@ -1,19 +1,19 @@
 -- Laws of the queue for those who call it: the list that waits after a call, what the array's front shows of it, and fitness kept.
 use Prim.Native.Nat.{ℕ, zero, suc, _+_, _-_, _≤_, _<_}
 use native.Mathlib.Omega.{arith}
-use mathlib.Core.Path.{_≡_, refl, sym, ap, _∙_}
+use mathlib.Core.Path.{_≡_, refl, ap}
 use mathlib.Core.Bool.{Bool, true, false, cond, not, _&&_}
 use mathlib.Core.List.{List, [], _∷_}
 use borrow.Author.Tests.{le-leb, lt-leb, lt-ltb, leb-true, leb-false}
 use lib.ListN.{length, take, getD}
 use lib.Seq.{length-take-le}
-use lib.Dec.{leb, ltb}
+use lib.Dec.{leb}
 use Rattle.lists.specs.Lists.{take-overlay}
 use Rattle.lists.specs.Tests.{and-split, and-join, either}
 use Rattle.queue.specs.declared.Request.{Request}
 use Rattle.queue.specs.declared.Queue.{Queue}
 use Rattle.queue.specs.declared.Finish.{Finish}
-use Rattle.queue.specs.Queue.{maxWork, workFits, waitingOf, queueWith, waits, headId, presented, served, finished, requestFits, requestsFit}
+use Rattle.queue.specs.Queue.{maxWaiting, maxWork, workFits, waitingOf, queueWith, waits, presented, served, finished, requestFits, requestsFit}
 use Rattle.queue.specs.Steps.{pushedQueue, servedQueue}
 
 -- a request that was served one tick and stays
@@ -28,18 +28,12 @@ waiting-with q rs = take-overlay (length rs) rs (q .requests) refl
 pub waiting-length : (q : Queue) → q .n ≤ length (q .requests) → length (waitingOf q) ≡ q .n
 waiting-length q h = length-take-le (q .n) (q .requests) h
 
--- a queue that is not full takes a request; one that says no more than 64 wait is served
-pub pushed-with : (q : Queue) (id work t : ℕ) → q .n < 64 → pushedQueue q id work t ≡ queueWith q (presented id work t (waitingOf q))
-pushed-with q id work t h = rw (lt-ltb (q .n) 64 h)
+-- a queue that is not full takes a request; one that says no more wait than may is served
+pub pushed-with : (q : Queue) (id work t : ℕ) → q .n < maxWaiting → pushedQueue q id work t ≡ queueWith q (presented id work t (waitingOf q))
+pushed-with q id work t h = rw (lt-ltb (q .n) maxWaiting h)
 
-pub served-with : (q : Queue) → q .n ≤ 64 → servedQueue q ≡ queueWith q (served (waitingOf q))
-served-with q h = rw (le-leb (q .n) 64 h)
-
-pub pushed-waiting : (q : Queue) (id work t : ℕ) → q .n < 64 → waitingOf (pushedQueue q id work t) ≡ presented id work t (waitingOf q)
-pushed-waiting q id work t h = ap waitingOf (pushed-with q id work t h) ∙ waiting-with q (presented id work t (waitingOf q))
-
-pub served-waiting : (q : Queue) → q .n ≤ 64 → waitingOf (servedQueue q) ≡ served (waitingOf q)
-served-waiting q h = ap waitingOf (served-with q h) ∙ waiting-with q (served (waitingOf q))
+pub served-with : (q : Queue) → q .n ≤ maxWaiting → servedQueue q ≡ queueWith q (served (waitingOf q))
+served-with q h = rw (le-leb (q .n) maxWaiting h)
 
 -- ---- lengths
 pub presented-length : (id work t : ℕ) (q : List Request) → length (presented id work t q) ≡ suc (length q)
@@ -52,17 +46,7 @@ served-length (r ∷ q) =
     either (λ (rs : List Request). length rs ≤ suc (length q)) (leb (r .work) 1) (omega arith) (omega arith)
 
 -- ---- what the front of an array of n waiting requests shows, where some wait; d stands for no request
-pub waits-count : (n : ℕ) (l : List Request) → n ≤ length l → waits (take n l) ≡ ltb 0 n
-waits-count zero l h = refl
-waits-count (suc n) [] h = absurd (omega arith)
-waits-count (suc n) (r ∷ l) h = sym (lt-ltb 0 (suc n) (omega arith))
-
 module _ (d : Request) where
-  pub head-id : (n : ℕ) (l : List Request) → 0 < n → n ≤ length l → headId (take n l) ≡ getD l 0 d .id
-  head-id zero l a h = absurd (omega arith)
-  head-id (suc n) [] a h = absurd (omega arith)
-  head-id (suc n) (r ∷ l) a h = refl
-
   pub head-finished : (t n : ℕ) (l : List Request) → 0 < n → n ≤ length l →
       finished t (take n l) ≡
       cond (leb (getD l 0 d .work) 1) (Finish.Finished (getD l 0 d .id) (t + 1 - getD l 0 d .arrival)) Finish.Nothing
@@ -90,7 +74,7 @@ module _ (d : Request) where
 -- ---- fitness of what waits: "a waiting work outside 1 to 60,000", "an arrival .. after the clock"
 pub record Fits (clock : ℕ) (r : Request) : Type 0 where
   pub some : 1 ≤ r .work
-  pub work : r .work ≤ 60_000
+  pub work : r .work ≤ maxWork
   pub arrival : r .arrival ≤ clock
 
 pub request-fits : (clock : ℕ) (r : Request) → requestFits clock r ≡ true → Fits clock r

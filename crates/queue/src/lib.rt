@@ -2,7 +2,7 @@
 ghost use mathlib.Core.Path.{_≡_};
 ghost use Prim.Native.Nat.{_≤_};
 ghost use lib.ListN.{drop};
-ghost use Rattle.queue.specs.Queue.{freshQueue, waitingOf, queueWith, requestFits};
+ghost use Rattle.queue.specs.Queue.{maxWaiting, freshQueue, waitingOf, queueWith, requestFits};
 ghost use Rattle.queue.specs.Steps.{pushedQueue, servedQueue, queueFits};
 
 // Work that comes when it likes: an id, the ticks of work left, and the tick at which it was presented.
@@ -112,7 +112,7 @@ impl Queue {
 
     // The others move up by one slot; the last slot in use keeps what it held.
     fn without_head(self) -> Queue
-        requires { ⌜ (1 ≤ self .n) × (self .n ≤ 64) ⌝ }
+        requires { ⌜ (1 ≤ self .n) × (self .n ≤ maxWaiting) ⌝ }
         ensures { λ r. ⌜ r ≡ queueWith self (drop 1 (waitingOf self)) ⌝ }
     {
         let n = self.n as usize;

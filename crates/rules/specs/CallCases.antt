@@ -1,17 +1,15 @@
 -- Cases of the calls: each refusal in its order and at its limit, what a refused call leaves alone, and what a run writes.
-use Prim.Native.Nat.{ℕ}
+use Prim.Native.Nat.{ℕ, _-_}
 use mathlib.Core.Path.{_≡_, refl}
-use mathlib.Core.List.{List, [], _∷_, map}
+use mathlib.Core.List.{[], _∷_, map}
 use lib.ListN.{replicate}
 use Rattle.lists.specs.Lists.{overlay}
-use Rattle.queue.specs.declared.Queue.{Queue}
+use Rattle.queue.specs.Queue.{maxWaiting}
 use Rattle.table.specs.declared.State.{State}
 use Rattle.table.specs.Refusal.{number, numberOf}
-use Rattle.table.specs.Model.{Model, modelOf}
+use Rattle.table.specs.Model.{modelOf}
 use Rattle.table.specs.State.{freshState}
 use Rattle.rules.specs.declared.TickAnswer.{TickAnswer}
-use Rattle.rules.specs.declared.Ticked.{Ticked}
-use Rattle.rules.specs.declared.Moved.{Moved}
 use Rattle.rules.specs.declared.Entry.{Entry}
 use Rattle.rules.specs.Calls.{requestCall, tickCall, runCall, runList, runState}
 use Rattle.rules.specs.Play.{task, server, table, stateAt}
@@ -34,7 +32,7 @@ abbrev waiting : ℕ → State
 waiting n = record {
   table = base .table;
   progress = base .progress;
-  queue = record { requests = replicate 64 (record { id = 7; work = 4; arrival = 0 }); n = n };
+  queue = record { requests = replicate maxWaiting (record { id = 7; work = 4; arrival = 0 }); n = n };
 }
 
 abbrev refusalOf : TickAnswer → ℕ
@@ -47,13 +45,13 @@ entry k i d = record { kind = k; id = i; drops = d }
 pub record CallCases : Type 0 where
   -- a request: "11, 4, 5"
   pub asked-work : map (λ w. numberOf (requestCall base 7 w .answer)) (0 ∷ 1 ∷ 60_000 ∷ 60_001 ∷ []) ≡ 4 ∷ 0 ∷ 0 ∷ 4 ∷ []
-  pub asked-room : numberOf (requestCall (waiting 63) 7 4 .answer) ≡ 0
-  pub asked-full : numberOf (requestCall (waiting 64) 7 4 .answer) ≡ 5
-  pub asked-full-work : numberOf (requestCall (waiting 64) 7 0 .answer) ≡ 4
+  pub asked-room : numberOf (requestCall (waiting (maxWaiting - 1)) 7 4 .answer) ≡ 0
+  pub asked-full : numberOf (requestCall (waiting maxWaiting) 7 4 .answer) ≡ 5
+  pub asked-full-work : numberOf (requestCall (waiting maxWaiting) 7 0 .answer) ≡ 4
   pub asked-unfit : numberOf (requestCall (atClock 4_000_000_001) 7 0 .answer) ≡ 11
   pub asked-last : numberOf (requestCall (atClock 4_000_000_000) 7 4 .answer) ≡ 0
   pub asked-state : modelOf (requestCall (atClock 9) 7 4 .state) .queue ≡ record { id = 7; work = 4; arrival = 9 } ∷ []
-  pub asked-refused : requestCall (waiting 64) 7 4 .state ≡ waiting 64
+  pub asked-refused : requestCall (waiting maxWaiting) 7 4 .state ≡ waiting maxWaiting
   -- a tick: "11, 6"
   pub tick-last : refusalOf (tickCall (atClock 3_999_999_999) .answer) ≡ 0
   pub tick-spent : refusalOf (tickCall (atClock 4_000_000_000) .answer) ≡ 6
@@ -71,7 +69,7 @@ pub record CallCases : Type 0 where
       entry 2 7 0 ∷ entry 2 7 0 ∷ entry 2 7 0 ∷ entry 2 7 0 ∷ entry 1 0 0 ∷ entry 5 5 5 ∷ []
   pub run-refused : runList base 3 (replicate 2 (entry 5 5 5)) ≡ replicate 2 (entry 5 5 5)
   pub run-refused-state : runCall base 3 2 .state ≡ base
-  pub run-is-ticks : runCall (waiting 2) 4 4 .state ≡ stateAt [] 4 (waiting 2)
+  pub run-is-ticks : runCall (waiting 2) 2 2 .state ≡ stateAt [] 2 (waiting 2)
   pub entry-drops :
       runList (requestCall (runState 3 tight) 7 4 .state) 6 (replicate 6 (entry 5 5 5)) ≡
       entry 2 7 0 ∷ entry 2 7 0 ∷ entry 2 7 0 ∷ entry 2 7 0 ∷ entry 1 0 0 ∷ entry 0 0 1 ∷ []

@@ -4,8 +4,7 @@ use mathlib.Core.Path.{_≡_, refl}
 use mathlib.Core.Bool.{true, false}
 use mathlib.Core.List.{List, [], _∷_, map}
 use Rattle.lists.specs.Lists.{overlay}
-use Rattle.table.specs.declared.SetUp.{SetUp}
-use Rattle.table.specs.Model.{Model, modelOf}
+use Rattle.table.specs.Model.{modelOf}
 use Rattle.table.specs.State.{setUpCall}
 use Rattle.rules.specs.declared.TickAnswer.{TickAnswer}
 use Rattle.rules.specs.Play.{task, server, table, at, played, stateAt, codeOf, responses}

@@ -1,23 +1,23 @@
 -- What the calls keep: a model written over a state reads back, a fit state's accepted calls leave it fit, and so every state
--- that calls reach from a fresh one is fit.
+-- that calls reach from the fresh one of a table that passes is fit.
 use Prim.Native.Nat.{ℕ, zero, suc, _+_, _≤_, _<_}
 use native.Mathlib.Omega.{arith}
-use mathlib.Core.Path.{_≡_, refl, ap, sym, subst, _∙_}
-use mathlib.Core.Bool.{Bool, true, false, cond, not, _&&_}
-use mathlib.Core.List.{List, [], _∷_, _++_}
-use lib.ListN.{length, take, drop, replicate, length-take, length-drop, length-append, length-set}
+use mathlib.Core.Path.{_≡_, refl, sym, subst, _∙_}
+use mathlib.Core.Bool.{Bool, true, false, cond}
+use mathlib.Core.List.{List, [], _∷_}
+use lib.ListN.{length, take, replicate, length-take, length-drop, length-append, length-set}
 use lib.Dec.{leb, ltb}
 use lib.Seq.{length-take-le}
 use borrow.Author.Tests.{leb-true, le-leb, ltb-true}
-use Rattle.lists.specs.Lists.{all, allWith, zipWith, overlay, take-overlay, zip-length}
-use Rattle.lists.specs.Tests.{never, and-split, and-join}
+use Rattle.lists.specs.Lists.{all, allWith, overlay, take-overlay, zip-length}
+use Rattle.lists.specs.Tests.{never, and-join}
 use Rattle.server.specs.Limits.{lastClock}
 use Rattle.server.specs.declared.Server.{Server}
 use Rattle.server.specs.Kind.{Kind, background, polling, deferrable, sporadic, kindOf}
 use Rattle.server.specs.Server.{freshServer}
 use Rattle.server.specs.Within.{Within, within-later, replenish-within, consume-within}
 use Rattle.queue.specs.declared.Request.{Request}
-use Rattle.queue.specs.Queue.{maxWaiting, workFits, waitingOf, presented, requestsFit}
+use Rattle.queue.specs.Queue.{maxWaiting, workFits, requestsFit}
 use Rattle.queue.specs.Laws.{fit-later, fit-presented}
 use Rattle.table.specs.declared.Task.{Task}
 use Rattle.table.specs.declared.Table.{Table}
@@ -30,10 +30,8 @@ use Rattle.table.specs.Model.{Model, taskSetOf, modelOf, written}
 use Rattle.table.specs.State.{freshState, tableCheck, leftFits, fit}
 use Rattle.table.specs.Facts.{TableFacts, table-facts, StateFacts, fit-facts, facts-fit}
 use Rattle.rules.specs.declared.Turn.{Turn}
-use Rattle.rules.specs.declared.Moved.{Moved}
-use Rattle.rules.specs.declared.Ticked.{Ticked}
-use Rattle.rules.specs.Tick.{opened, workedTasks, workedQueue, tick, turnAt, leftsAt, serverAt, seenAt, kindAt, busyAt}
-use Rattle.rules.specs.Calls.{unless, asked, requestCheck, requestCall, clockAllows, ticksCheck, ticked, stateAfter, tickCall, tickBy, runState, runCheck, runCall}
+use Rattle.rules.specs.Tick.{opened, workedTasks, turnAt, leftsAt, serverAt, seenAt, kindAt, busyAt}
+use Rattle.rules.specs.Calls.{unless, asked, requestCheck, requestCall, clockAllows, ticked, stateAfter, tickCall, tickBy, runState, runCall}
 use Rattle.rules.specs.Fitness.{opened-fit, worked-fit, queue-fit, queue-shorter}
 
 -- ---- a model written over a state reads back as itself
@@ -58,7 +56,7 @@ written-sized s m z a b = record {
 }
 
 -- ---- how long the lists of a model are
-worked-length : (t : Turn) (ls : List ℕ) → length (workedTasks t ls) ≡ length ls
+pub worked-length : (t : Turn) (ls : List ℕ) → length (workedTasks t ls) ≡ length ls
 worked-length Turn.Nobody ls = refl
 worked-length (Turn.Task i) ls = length-set ls i _
 worked-length Turn.Budget ls = refl

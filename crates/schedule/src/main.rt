@@ -1,8 +1,15 @@
 // `schedule`: a plan on standard input, what it prints on standard output. All but the reading and the writing is the library's.
 ghost use Prim.Native.Nat.{ℕ, _≤_};
 ghost use lib.ListN.{length};
+ghost use Rattle.output.specs.Rooms.{headRoom};
 use plan::Answer;
 use table::Table;
+
+// How many bytes are read: one more than a plan may have.
+const READ_BYTES: usize = plan::MAX_BYTES + 1;
+
+// The buffer that is filled again and again.
+const OUT_BYTES: usize = 65536;
 
 // Writes the first n bytes of the buffer. False where the output is closed: there is nothing more to do then.
 fn write_out(out: &[u8], n: usize) -> bool
@@ -13,7 +20,7 @@ fn write_out(out: &[u8], n: usize) -> bool
 
 // Prints an accepted plan: the head, then the ticks, a buffer at a time.
 fn run(text: &[u8], table: Table, ticks: u32, out: &mut [u8])
-    requires { ⌜ 828 ≤ length (now out) ⌝ }
+    requires { ⌜ headRoom ≤ length (now out) ⌝ }
 {
     let h = output::head(out, table);
     if !write_out(out, h) {
@@ -31,8 +38,8 @@ fn run(text: &[u8], table: Table, ticks: u32, out: &mut [u8])
 }
 
 fn main() {
-    let mut bytes = [0u8; 65537];
-    let mut out = [0u8; 65536];
+    let mut bytes = [0u8; READ_BYTES];
+    let mut out = [0u8; OUT_BYTES];
     let n = io::read_full(0, &mut bytes);
     let text = &bytes[..n];
     let r = plan::check(text);

@@ -17,9 +17,9 @@ use Rattle.lists.specs.Count.{due-true, due-at}
 use Rattle.table.specs.declared.Task.{Task}
 use Rattle.table.specs.Facts.{TaskLimits, noTask}
 use Rattle.rules.specs.Tick.{isOpen, expires, dropped, opened, openedAll}
-use Rattle.scheduler.specs.declared.Stepped.{Stepped}
-use Rattle.scheduler.specs.declared.Opened.{Opened}
-use Rattle.scheduler.specs.Parts.{oneIf, since, nextDue, leastOf, soonest, Rests, Calm, calmAfter, steppedBy, openedBy}
+use Rattle.scheduler.specs.declared.opening.Opened.{Opened}
+use Rattle.lists.specs.Numbers.{bitOf, lesser-left, lesser-right}
+use Rattle.scheduler.specs.Opening.{since, nextDue, soonest, Rests, Calm, calmAfter, taskStep, openedBy}
 
 pub positive : (n : ℕ) → (n ≡ 0 → ⊥) → 0 < n
 positive zero f = absurd (f refl)
@@ -138,7 +138,7 @@ module _ (t : ℕ) (x : Task) (limits : TaskLimits x) where
   -- ---- steps 1 and 2: b, it is released; c, its job is cut off
   module _ (l : ℕ) where
     stepped : (b c : Bool) (next : ℕ) → due t (x .phase) (x .period) ≡ b → expires t x l ≡ c → next ≡ nextDue t x →
-        record { left = cond b (x .exec) (cond c 0 l); drops = oneIf c; next = next } ≡ steppedBy t x l
+        record { left = cond b (x .exec) (cond c 0 l); drops = bitOf c; next = next } ≡ taskStep t x l
     stepped b c next eb ec en = rw (en, eb, ec)
 
     cut : 0 < l → due t (x .phase + x .deadline) (x .period) ≡ true → expires t x l ≡ true
@@ -147,7 +147,7 @@ module _ (t : ℕ) (x : Task) (limits : TaskLimits x) where
     not-due : due t (x .phase + x .deadline) (x .period) ≡ false → expires t x l ≡ false
     not-due e = rw e (and-false (isOpen l))
 
-    pub step-early : t < x .phase → record { left = l; drops = 0; next = x .phase } ≡ steppedBy t x l
+    pub step-early : t < x .phase → record { left = l; drops = 0; next = x .phase } ≡ taskStep t x l
     step-early h =
         let r = rests-early t h in
         stepped false false (x .phase) (r .0) (not-due (r .1)) (rw (lt-ltb t (x .phase) h))
@@ -165,14 +165,14 @@ module _ (t : ℕ) (x : Task) (limits : TaskLimits x) where
           ap (λ (k : ℕ). t + k) e ∙ next-before (omega (arith, limits .some, limits .within))
 
       pub step-cut : since t x ≡ 0 → ltb 0 l && leb (x .period) (x .deadline) && ltb (x .phase) t ≡ true →
-          record { left = x .exec; drops = 1; next = t + x .deadline } ≡ steppedBy t x l
+          record { left = x .exec; drops = 1; next = t + x .deadline } ≡ taskStep t x l
       step-cut z e =
           let a = and-split (ltb 0 l && leb (x .period) (x .deadline)) (ltb (x .phase) t) e in
           let b = and-split (ltb 0 l) (leb (x .period) (x .deadline)) (a .0) in
           stepped true true (t + x .deadline) (released from z) (cut (ltb-true _ _ (b .0)) (late-at-release from z (leb-true _ _ (b .1)) (ltb-true _ _ (a .1)))) (next-released z)
 
       pub step-release : since t x ≡ 0 → ltb 0 l && leb (x .period) (x .deadline) && ltb (x .phase) t ≡ false →
-          record { left = x .exec; drops = 0; next = t + x .deadline } ≡ steppedBy t x l
+          record { left = x .exec; drops = 0; next = t + x .deadline } ≡ taskStep t x l
       step-release z e = stepped true false (t + x .deadline) (released from z) (by (ltb 0 l) refl e) (next-released z)
         where
           by : (o : Bool) → ltb 0 l ≡ o → o && leb (x .period) (x .deadline) && ltb (x .phase) t ≡ false → expires t x l ≡ false
@@ -180,17 +180,17 @@ module _ (t : ℕ) (x : Task) (limits : TaskLimits x) where
           by false eo h = rw eo
 
       pub step-waits : (since t x ≡ 0 → ⊥) → since t x < x .deadline →
-          record { left = l; drops = 0; next = t + (x .deadline - since t x) } ≡ steppedBy t x l
+          record { left = l; drops = 0; next = t + (x .deadline - since t x) } ≡ taskStep t x l
       step-waits z h = stepped false false _ (not-released from (positive _ z)) (not-due (not-yet-late from (positive _ z) h)) (next-before h)
 
       pub step-late : x .deadline ≤ since t x → eqb (since t x) (x .deadline) && ltb 0 l ≡ true →
-          record { left = 0; drops = 1; next = t + (x .period - since t x) } ≡ steppedBy t x l
+          record { left = 0; drops = 1; next = t + (x .period - since t x) } ≡ taskStep t x l
       step-late h e =
           let a = and-split (eqb (since t x) (x .deadline)) (ltb 0 l) e in
           stepped false true _ (not-released from (omega (arith, limits .some, limits .within))) (cut (ltb-true _ _ (a .1)) (late from (eqb-true _ _ (a .0)))) (next-after h)
 
       pub step-rests : x .deadline ≤ since t x → eqb (since t x) (x .deadline) && ltb 0 l ≡ false →
-          record { left = l; drops = 0; next = t + (x .period - since t x) } ≡ steppedBy t x l
+          record { left = l; drops = 0; next = t + (x .period - since t x) } ≡ taskStep t x l
       step-rests h e = stepped false false _ (not-released from (omega (arith, limits .some, limits .within))) (by (eqb (since t x) (x .deadline)) refl e) (next-after h)
         where
           by : (c : Bool) → eqb (since t x) (x .deadline) ≡ c → c && ltb 0 l ≡ false → expires t x l ≡ false
@@ -200,31 +200,17 @@ module _ (t : ℕ) (x : Task) (limits : TaskLimits x) where
               not-due (past-late from (omega arith))
 
 -- ---- the tasks of a table
--- the least of the next ticks is no later than each of them
-least-left : (a b : ℕ) → leastOf a b ≤ a
-least-left a b = by (ltb b a) refl
-  where
-    by : (c : Bool) → ltb b a ≡ c → cond c b a ≤ a
-    by true e = let h : b < a = ltb-true b a e in omega arith
-    by false e = omega arith
-
-least-right : (a b : ℕ) → leastOf a b ≤ b
-least-right a b = by (ltb b a) refl
-  where
-    by : (c : Bool) → ltb b a ≡ c → cond c b a ≤ b
-    by true e = omega arith
-    by false e = ltb-false b a e
-
+-- the soonest of the next ticks is no later than each of them
 soonest-le : (t : ℕ) (xs : List Task) (n i : ℕ) → i < n → soonest t xs n ≤ nextDue t (getD xs i noTask)
 soonest-le t xs zero i h = absurd (omega arith)
 soonest-le t xs (suc n) i h = by (ltb i n) refl (soonest-le t xs n i)
   where
     by : (c : Bool) → ltb i n ≡ c → (i < n → soonest t xs n ≤ nextDue t (getD xs i noTask)) → soonest t xs (suc n) ≤ nextDue t (getD xs i noTask)
-    by true e rest = let lt : i < n = ltb-true i n e in omega (arith, rest lt, least-left (soonest t xs n) (nextDue t (getD xs n noTask)))
+    by true e rest = let lt : i < n = ltb-true i n e in omega (arith, rest lt, lesser-left (soonest t xs n) (nextDue t (getD xs n noTask)))
     by false e rest =
         let le : n ≤ i = ltb-false i n e in
         let same : i ≡ n = omega arith in
-        rw same (least-right (soonest t xs n) (nextDue t (getD xs n noTask)))
+        rw same (lesser-right (soonest t xs n) (nextDue t (getD xs n noTask)))
 
 -- the calm that is known after tick t lasts
 pub calm-on : (t : ℕ) (xs : List Task) (n c : ℕ) → ((i : ℕ) → i < n → TaskLimits (getD xs i noTask)) → Calm xs n t c → Calm xs n (t + 1) (calmAfter t xs n c)

@@ -3,7 +3,7 @@ use Prim.Native.Nat.{ℕ, zero, suc, _+_, _-_, _≤_, _<_}
 use native.Mathlib.Omega.{arith}
 use native.Mathlib.Numerals.{add-one}
 use mathlib.Core.Path.{_≡_, refl, sym, ap, _∙_}
-use mathlib.Core.Bool.{Bool, true, false, cond, not, _&&_}
+use mathlib.Core.Bool.{Bool, true, false, cond, _&&_}
 use mathlib.Core.List.{List, [], _∷_}
 use lib.ListN.{length, take, getD, set, length-set, take-append-drop}
 use lib.Seq.{length-take-le}
@@ -13,11 +13,11 @@ use Rattle.lists.specs.Lists.{overlay}
 use Rattle.lists.specs.Tests.{never}
 use Rattle.queue.specs.declared.Request.{Request}
 use Rattle.queue.specs.declared.Queue.{Queue}
-use Rattle.queue.specs.Queue.{waits, waitingOf}
+use Rattle.queue.specs.Queue.{waits, waitingOf, maxWaiting}
 use Rattle.queue.specs.Steps.{servedQueue}
 use Rattle.queue.specs.Laws.{served-empties}
-use Rattle.scheduler.specs.declared.Head.{Head}
-use Rattle.scheduler.specs.Parts.{ends, headOf, noRequest, headWork, worked, headLess, shown, givenAfter}
+use Rattle.scheduler.specs.Service.{noRequest, headWork, worked, headLess, shown, givenAfter}
+use Rattle.scheduler.specs.Work.{ends, headOf}
 
 -- ---- the array
 pub less-length : (g : ℕ) (rs : List Request) → length (headLess g rs) ≡ length rs
@@ -48,7 +48,7 @@ head-is (suc n) g [] a h = absurd (omega arith)
 head-is (suc n) g (r ∷ rs) a h = rw (less-head g r rs, served-empties noRequest (suc n) (worked g r ∷ rs) a h)
 
 -- ---- one tick of service more, that is not the head's last
-served-more : (n g : ℕ) (rs : List Request) → n ≤ 64 → n ≤ length rs → ends (take n (headLess g rs)) ≡ false →
+served-more : (n g : ℕ) (rs : List Request) → n ≤ maxWaiting → n ≤ length rs → ends (take n (headLess g rs)) ≡ false →
     servedQueue (record { requests = headLess g rs; n = n }) ≡ record { requests = headLess (suc g) rs; n = n }
 unfolding overlay
 served-more zero g rs few h e = never e refl
@@ -56,7 +56,7 @@ served-more (suc n) g [] few h e = absurd (omega arith)
 served-more (suc n) g (r ∷ rs) few h e =
     let f : leb (r .work - g) 1 ≡ false = sym (ends-is (suc n) g (r ∷ rs) (omega arith) h) ∙ e in
     let w : r .work - g - 1 ≡ r .work - suc g = omega arith in
-    rw (less-head g r rs, le-leb (suc n) 64 few, f, w, length-take-le n rs (omega arith), take-append-drop n rs)
+    rw (less-head g r rs, le-leb (suc n) maxWaiting few, f, w, length-take-le n rs (omega arith), take-append-drop n rs)
 
 more-work : (n g : ℕ) (rs : List Request) → ends (take n (headLess g rs)) ≡ false → n ≤ length rs → g < getD rs 0 noRequest .work
 more-work zero g rs e h = never e refl
@@ -65,7 +65,7 @@ more-work (suc n) g rs e h =
     omega arith
 
 -- a tick after which the head stays: its service is counted
-module _ (c : Queue) (g : ℕ) (few : c .n ≤ 64) (long : length (c .requests) ≡ 64) where
+module _ (c : Queue) (g : ℕ) (few : c .n ≤ maxWaiting) (long : length (c .requests) ≡ maxWaiting) where
   pub counted : (serves e : Bool) → ends (waitingOf (shown g c)) ≡ e → serves && e ≡ false →
       cond serves (servedQueue (shown g c)) (shown g c) ≡ shown (givenAfter serves e g) c
   counted false e is stays = refl

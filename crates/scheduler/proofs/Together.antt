@@ -1,13 +1,15 @@
 -- The parts of a tick, put together: what the functions compute of the arrays is what the tick's definition says of the lists.
-use Prim.Native.Nat.{ℕ, zero, suc, _+_, _-_, _≤_, _<_}
+use Prim.Native.Nat.{ℕ, _+_, _-_, _≤_, _<_}
 use native.Mathlib.Omega.{arith}
-use mathlib.Core.Path.{_≡_, refl, sym, ap, ap₂, subst, _∙_}
-use mathlib.Core.Bool.{Bool, true, false, cond, not, _&&_}
-use mathlib.Core.List.{List, [], _∷_, _++_}
-use lib.ListN.{length, take, drop, getD, set, length-set, List·getD-append}
+use mathlib.Core.Path.{_≡_, refl, sym, ap, _∙_}
+use mathlib.Core.Bool.{Bool, true, false, cond, _&&_}
+use mathlib.Core.List.{List}
+use lib.ListN.{length, take, drop, getD, length-set, List·getD-append}
 use lib.Seq.{set-append-left, length-take-le, take-length}
-use lib.Dec.{leb, ltb}
+use lib.Dec.{ltb}
 use borrow.Author.Tests.{leb-true, ltb-true}
+use Rattle.server.specs.Limits.{lastClock}
+use Rattle.table.specs.Limits.{maxTasks}
 use Rattle.lists.specs.Lists.{overlay, take-overlay, overlay-take, zip-length}
 use Rattle.lists.specs.Tests.{never, and-split}
 use Rattle.server.specs.declared.ServerState.{ServerState}
@@ -19,29 +21,30 @@ use Rattle.server.specs.Within.{Within, replenish-within, consumed-is-consume}
 use Rattle.queue.specs.declared.Request.{Request}
 use Rattle.queue.specs.declared.Queue.{Queue}
 use Rattle.queue.specs.declared.Finish.{Finish}
-use Rattle.queue.specs.Queue.{waits, headId, finished, waitingOf, queueWith}
+use Rattle.queue.specs.Queue.{waits, headId, finished, waitingOf, queueWith, maxWaiting}
 use Rattle.queue.specs.Steps.{servedQueue}
 use Rattle.queue.specs.Laws.{served-with}
 use Rattle.table.specs.declared.Table.{Table}
 use Rattle.table.specs.declared.Progress.{Progress}
 use Rattle.table.specs.declared.State.{State}
 use Rattle.table.specs.Model.{taskSetOf, modelOf}
-use Rattle.table.specs.State.{fit}
 use Rattle.table.specs.Facts.{TableFacts, table-facts, task-at, StateFacts, fit-facts}
 use Rattle.rules.specs.declared.Turn.{Turn}
 use Rattle.rules.specs.declared.Occupant.{Occupant}
 use Rattle.rules.specs.declared.Entry.{Entry}
 use Rattle.rules.specs.declared.TickAnswer.{TickAnswer}
-use Rattle.rules.specs.declared.Ticked.{Ticked}
-use Rattle.rules.specs.Tick.{opened, anyOpen, firstOpen, idleTurn, choose, workedTasks, workedQueue, occupantOf, finishOf, seenBy, turnAt, leftsAt, aboveAt, busyAt, serverAt, seenAt}
-use Rattle.rules.specs.Calls.{clockAllows, ticked, stateAfter, ranBy, entryBy, entryOf}
-use Rattle.rules.specs.Laws.{Sized}
-use Rattle.scheduler.specs.declared.Opened.{Opened}
-use Rattle.scheduler.specs.declared.Head.{Head}
-use Rattle.scheduler.specs.declared.Started.{Started}
-use Rattle.scheduler.specs.declared.Decision.{Decision}
-use Rattle.scheduler.specs.declared.Recorded.{Recorded}
-use Rattle.scheduler.specs.Parts.{joined, mayRun, CalmFor, calmAfter, calmOf, openedBy, leftsBy, startedBy, ends, headOf, toRequest, seenOf, decidedBy, entryFor, occupantFor, headWork, shown, givenAfter, servesAt, recordedBy}
+use Rattle.rules.specs.Tick.{opened, anyOpen, firstOpen, choose, workedTasks, workedQueue, occupantOf, finishOf, seenBy, turnAt, aboveAt, busyAt, serverAt, seenAt}
+use Rattle.rules.specs.Calls.{ticked, stateAfter, ranBy, entryBy, entryOf}
+use Rattle.scheduler.specs.declared.opening.Opened.{Opened}
+use Rattle.scheduler.specs.declared.work.Head.{Head}
+use Rattle.scheduler.specs.declared.replenishment.Started.{Started}
+use Rattle.scheduler.specs.declared.decision.Decision.{Decision}
+use Rattle.scheduler.specs.Decision.{calmOf, decidedBy, occupantFor, servesAt, recordedBy}
+use Rattle.scheduler.specs.Opening.{CalmFor, calmAfter, openedBy, leftsBy, startedBy}
+use Rattle.scheduler.specs.Parts.{stateOf, mayRun}
+use Rattle.scheduler.specs.Service.{headWork, shown, givenAfter}
+use Rattle.scheduler.specs.Work.{ends, headOf, toRequest, seenOf}
+use Rattle.scheduler.specs.Laws.{may-fit}
 use Rattle.scheduler.proofs.Due.{calm-on}
 use Rattle.scheduler.proofs.Given.{less-length, counted, counted-within, one-more}
 use Rattle.scheduler.proofs.Laws.{first-below}
@@ -51,7 +54,7 @@ first-any : (ls : List ℕ) → ltb (firstOpen ls) (length ls) ≡ anyOpen ls
 first-any ls = first-below (length ls) ls (omega arith) ∙ ap anyOpen (take-length ls)
 
 -- ---- steps 1 to 3
-module _ (t : Table) (p : Progress) (few : t .n ≤ 16) (tasks : length (t .tasks) ≡ 16) (left : length (p .left) ≡ 16) where
+module _ (t : Table) (p : Progress) (few : t .n ≤ maxTasks) (tasks : length (t .tasks) ≡ maxTasks) (left : length (p .left) ≡ maxTasks) where
   pub lefts-length : length (leftsBy t p) ≡ t .n
   lefts-length =
       let a : length (take (t .n) (t .tasks)) ≡ t .n = length-take-le _ _ (rw tasks few) in
@@ -95,24 +98,20 @@ seen-is t q (Turn.Task i) above busy = refl
 seen-is t q Turn.Budget above busy = refl
 seen-is t q Turn.Spare above busy = refl
 
--- ---- a state that may run one tick
-pub may-fit : (s : State) → mayRun 1 s ≡ true → (fit s ≡ true) × (clockAllows s 1 ≡ true)
-unfolding mayRun
-may-fit s e = and-split (fit s) (clockAllows s 1) e
-
+-- ---- a state that may run one tick keeps its limits
 pub may-facts : (s : State) → mayRun 1 s ≡ true → StateFacts s
 may-facts s e = fit-facts s (may-fit s e .0)
 
 pub may-table : (s : State) → mayRun 1 s ≡ true → TableFacts (s .table)
 may-table s e = table-facts (s .table) (may-facts s e .passes)
 
-pub may-clock : (s : State) → mayRun 1 s ≡ true → s .progress .clock + 1 ≤ 4_000_000_000
+pub may-clock : (s : State) → mayRun 1 s ≡ true → s .progress .clock + 1 ≤ lastClock
 may-clock s e = leb-true _ _ (may-fit s e .1)
 
 -- ---- the whole tick
-module _ (t : Table) (p : Progress) (q : Queue) (may : mayRun 1 (joined t p q) ≡ true) (tasks : length (t .tasks) ≡ 16) (left : length (p .left) ≡ 16) where
+module _ (t : Table) (p : Progress) (q : Queue) (may : mayRun 1 (stateOf t p q) ≡ true) (tasks : length (t .tasks) ≡ maxTasks) (left : length (p .left) ≡ maxTasks) where
   abbrev s : State
-  s = joined t p q
+  s = stateOf t p q
 
   limits : TableFacts t
   limits = may-table s may
@@ -158,29 +157,24 @@ module _ (t : Table) (p : Progress) (q : Queue) (may : mayRun 1 (joined t p q) �
       rw (x1, l1, t1, es)
 
 -- ---- what a tick reports
-entry-is : (turn : Turn) (q : List Request) (d : ℕ) → entryFor turn (headId q) d ≡ entryBy (occupantOf turn q) d
-entry-is Turn.Nobody q d = refl
-entry-is (Turn.Task i) q d = refl
-entry-is Turn.Budget q d = refl
-entry-is Turn.Spare q d = refl
-
 occupant-is : (turn : Turn) (q : List Request) → occupantFor turn (headId q) ≡ occupantOf turn q
 occupant-is Turn.Nobody q = refl
 occupant-is (Turn.Task i) q = refl
 occupant-is Turn.Budget q = refl
 occupant-is Turn.Spare q = refl
 
-pub record-is : (s : State) (c g : ℕ) (d : Decision) (h : Head) (b : Bool) (e : Entry) (k : ℕ) → d ≡ decidedBy s c → h ≡ headOf (waitingOf (s .queue)) →
-    b ≡ toRequest (d .turn) → e ≡ entryFor (d .turn) (h .id) (d .drops) → k ≡ givenAfter b (h .ends) g →
+pub record-is : (s : State) (c g : ℕ) (d : Decision) (h : Head) (b : Bool) (o : Occupant) (e : Entry) (k : ℕ) → d ≡ decidedBy s c → h ≡ headOf (waitingOf (s .queue)) →
+    b ≡ toRequest (d .turn) → o ≡ occupantFor (d .turn) (h .id) → e ≡ entryBy o (d .drops) → k ≡ givenAfter b (h .ends) g →
     record { progress = d .progress; entry = e; calm = d .calm; given = k; leaves = b && h .ends } ≡ recordedBy s c g
-record-is s c g d h b e k ed eh eb ee ek =
-    let e1 : e ≡ entryOf (ticked s) = ee ∙ rw (ed, eh) (entry-is (turnAt (taskSetOf (s .table)) (modelOf s)) (waitingOf (s .queue)) (ticked s .drops)) in
+record-is s c g d h b o e k ed eh eb eo ee ek =
+    let o1 : o ≡ ticked s .occupant = eo ∙ rw (ed, eh) (occupant-is (turnAt (taskSetOf (s .table)) (modelOf s)) (waitingOf (s .queue))) in
+    let e1 : e ≡ entryOf (ticked s) = ee ∙ rw (o1, ed) refl in
     let b1 : b ≡ servesAt s = eb ∙ rw ed refl in
     let k1 : k ≡ givenAfter (servesAt s) (ends (waitingOf (s .queue))) g = ek ∙ rw (b1, eh) refl in
     rw (k1, b1, e1, ed, eh)
 
 -- ---- the calm after a tick
-pub calm-after : (s : State) (c : ℕ) → mayRun 1 s ≡ true → length (s .table .tasks) ≡ 16 → CalmFor (s .table) (s .progress) c →
+pub calm-after : (s : State) (c : ℕ) → mayRun 1 s ≡ true → length (s .table .tasks) ≡ maxTasks → CalmFor (s .table) (s .progress) c →
     CalmFor (s .table) (stateAfter s .progress) (calmOf s c)
 calm-after s c may long calm =
     let limits = may-table s may in
@@ -190,7 +184,7 @@ calm-after s c may long calm =
 queue-stays : (q : Queue) → q .n ≤ length (q .requests) → queueWith q (waitingOf q) ≡ q
 queue-stays q h = rw (overlay-take (q .n) (q .requests), length-take-le (q .n) (q .requests) h)
 
-module _ (s : State) (room : s .queue .n ≤ 64) (long : length (s .queue .requests) ≡ 64) where
+module _ (s : State) (room : s .queue .n ≤ maxWaiting) (long : length (s .queue .requests) ≡ maxWaiting) where
   after-stay : (turn : Turn) → toRequest turn ≡ false → s .queue ≡ queueWith (s .queue) (workedQueue turn (waitingOf (s .queue)))
   after-stay Turn.Nobody e = sym (queue-stays (s .queue) (omega (arith, long)))
   after-stay (Turn.Task i) e = sym (queue-stays (s .queue) (omega (arith, long)))
@@ -243,9 +237,9 @@ module _ (s : State) (room : s .queue .n ≤ 64) (long : length (s .queue .reque
         rw (occupant, ed, ← (finish-none (s .progress .clock) now (waitingOf (s .queue)) v), ← (after-stay now v))
 
 -- ---- the queue of a run, whose head has had g ticks of service that it does not show
-module _ (t : Table) (p : Progress) (c : Queue) (z g : ℕ) (may : mayRun 1 (joined t p (shown g c)) ≡ true) (long : length (c .requests) ≡ 64) where
+module _ (t : Table) (p : Progress) (c : Queue) (z g : ℕ) (may : mayRun 1 (stateOf t p (shown g c)) ≡ true) (long : length (c .requests) ≡ maxWaiting) where
   abbrev at : State
-  at = joined t p (shown g c)
+  at = stateOf t p (shown g c)
 
   after : (b : Bool) → servesAt at ≡ b → cond b (servedQueue (shown g c)) (shown g c) ≡ stateAfter at .queue
   after b e = queue-after at (may-facts at may .waiting) (less-length g (c .requests) ∙ long) b e

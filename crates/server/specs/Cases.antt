@@ -1,12 +1,13 @@
 -- Cases of the server's rules, worked out apart from the definitions: each rule, changed alone, is refused by one of them.
-use Prim.Native.Nat.{ℕ, zero, suc}
+use Prim.Native.Nat.{ℕ, suc}
 use mathlib.Core.Path.{_≡_, refl}
 use mathlib.Core.Bool.{Bool, true, false, not, _&&_}
-use mathlib.Core.List.{List, [], _∷_, map}
+use mathlib.Core.List.{List, [], _∷_, _++_, map}
+use lib.ListN.{replicate}
 use Rattle.server.specs.declared.Server.{Server}
 use Rattle.server.specs.declared.ServerState.{ServerState}
 use Rattle.server.specs.declared.Seen.{Seen}
-use Rattle.server.specs.Kind.{Kind, background, polling, deferrable, sporadic, kindOf}
+use Rattle.server.specs.Kind.{background, polling, deferrable, sporadic, kindOf}
 use Rattle.server.specs.Server.{freshServer, replenish, eligible, servesIdle, consume, serverDemand}
 
 abbrev server : ℕ → ℕ → ℕ → Server
@@ -105,68 +106,46 @@ pub record ServerCases : Type 0 where
   pub background-budgets : budgets (server 0 0 0) (asks ∷ idle ∷ overAsks ∷ underAsks ∷ []) ≡ 0 ∷ 0 ∷ 0 ∷ 0 ∷ []
   -- a first service counts from the stretch above it, the budget falls while the server idles after it, and a stretch that begins anew replenishes
   pub sporadic-from-begin : states (server 3 6 2) (over ∷ over ∷ over ∷ asks ∷ idle ∷ idle ∷ over ∷ over ∷ asks ∷ []) ≡
-      sp 2 0 0 0 false false true true
-      ∷ sp 2 0 0 0 false false true true
-      ∷ sp 2 0 0 0 false false true true
-      ∷ sp 1 0 0 6 true false false false
-      ∷ sp 0 0 0 6 true false false false
-      ∷ sp 0 0 0 6 true false false false
-      ∷ sp 2 6 6 0 false false true true
-      ∷ sp 2 6 6 0 false false true true
-      ∷ sp 1 6 6 12 true false false false ∷ []
+      replicate 3 (sp 2 0 0 0 false false true true)
+      ++ sp 1 0 0 6 true false false false
+      ∷ replicate 2 (sp 0 0 0 6 true false false false)
+      ++ replicate 2 (sp 2 6 6 0 false false true true)
+      ++ sp 1 6 6 12 true false false false ∷ []
   -- replenished at nr; a first service with no task above open before it counts from itself
   pub sporadic-below : states (server 3 4 2) (under ∷ overAsks ∷ overAsks ∷ underAsks ∷ under ∷ under ∷ under ∷ under ∷ underAsks ∷ []) ≡
       sp 2 0 0 0 false false false true
-      ∷ sp 2 0 1 0 false false true true
-      ∷ sp 2 0 1 0 false false true true
-      ∷ sp 1 0 1 5 true false false true
+      ∷ replicate 2 (sp 2 0 1 0 false false true true)
+      ++ sp 1 0 1 5 true false false true
       ∷ sp 0 0 1 5 true false false true
-      ∷ sp 2 5 1 0 false false false true
-      ∷ sp 2 5 1 0 false false false true
-      ∷ sp 2 5 1 0 false false false true
-      ∷ sp 1 5 1 12 true false false true ∷ []
+      ∷ replicate 3 (sp 2 5 1 0 false false false true)
+      ++ sp 1 5 1 12 true false false true ∷ []
   -- nr had passed at the first service: late, and replenished when the budget is spent
   pub sporadic-late : states (server 3 3 2) (over ∷ over ∷ over ∷ over ∷ asks ∷ asks ∷ asks ∷ idle ∷ []) ≡
-      sp 2 0 0 0 false false true true
-      ∷ sp 2 0 0 0 false false true true
-      ∷ sp 2 0 0 0 false false true true
-      ∷ sp 2 0 0 0 false false true true
-      ∷ sp 1 0 0 3 true true false false
+      replicate 4 (sp 2 0 0 0 false false true true)
+      ++ sp 1 0 0 3 true true false false
       ∷ sp 0 0 0 3 true true false false
       ∷ sp 1 6 0 9 true false false false
       ∷ sp 0 6 0 9 true false false false ∷ []
   -- te + P is the tick of the first service itself
   pub sporadic-meets : states (server 3 4 2) (over ∷ over ∷ over ∷ over ∷ asks ∷ under ∷ under ∷ []) ≡
-      sp 2 0 0 0 false false true true
-      ∷ sp 2 0 0 0 false false true true
-      ∷ sp 2 0 0 0 false false true true
-      ∷ sp 2 0 0 0 false false true true
-      ∷ sp 1 4 0 8 true false false false
-      ∷ sp 2 5 0 0 false false false true
-      ∷ sp 2 5 0 0 false false false true ∷ []
+      replicate 4 (sp 2 0 0 0 false false true true)
+      ++ sp 1 4 0 8 true false false false
+      ∷ replicate 2 (sp 2 5 0 0 false false false true)
   -- held while a task above is open; the first task to open after none was replenishes
   pub sporadic-above : states (server 3 5 3) (under ∷ under ∷ under ∷ underAsks ∷ over ∷ under ∷ under ∷ under ∷ idle ∷ under ∷ []) ≡
-      sp 3 0 0 0 false false false true
-      ∷ sp 3 0 0 0 false false false true
-      ∷ sp 3 0 0 0 false false false true
-      ∷ sp 2 0 0 8 true false false true
+      replicate 3 (sp 3 0 0 0 false false false true)
+      ++ sp 2 0 0 8 true false false true
       ∷ sp 2 0 4 8 true false true true
       ∷ sp 1 0 4 8 true false false true
-      ∷ sp 0 0 4 8 true false false true
-      ∷ sp 0 0 4 8 true false false true
-      ∷ sp 3 8 4 0 false false false false
+      ∷ replicate 2 (sp 0 0 4 8 true false false true)
+      ++ sp 3 8 4 0 false false false false
       ∷ sp 3 9 4 0 false false false true ∷ []
   -- te is tr where that is later than begin
   pub sporadic-since-tr : states (server 3 5 1) (underAsks ∷ over ∷ over ∷ over ∷ over ∷ over ∷ over ∷ underAsks ∷ under ∷ []) ≡
       sp 0 0 0 5 true false false true
-      ∷ sp 0 0 1 5 true false true true
-      ∷ sp 0 0 1 5 true false true true
-      ∷ sp 0 0 1 5 true false true true
-      ∷ sp 0 0 1 5 true false true true
-      ∷ sp 1 5 1 0 false false true true
-      ∷ sp 1 5 1 0 false false true true
-      ∷ sp 0 5 1 10 true false false true
-      ∷ sp 0 5 1 10 true false false true ∷ []
+      ∷ replicate 4 (sp 0 0 1 5 true false true true)
+      ++ replicate 2 (sp 1 5 1 0 false false true true)
+      ++ replicate 2 (sp 0 5 1 10 true false false true)
   -- the fresh budget is B, but 0 for kind 0 and for a number that is no kind
   pub fresh-kinds : map budgetOf (freshServer background (server 0 5 3) ∷ freshServer (kindOf 1) (server 1 5 3) ∷ freshServer (kindOf 2) (server 2 5 3) ∷ freshServer (kindOf 3) (server 3 5 3) ∷ freshServer (kindOf 4) (server 4 5 3) ∷ []) ≡ 0 ∷ 3 ∷ 3 ∷ 3 ∷ 0 ∷ []
   pub fresh-sporadic : freshServer sporadic (server 3 5 3) ≡ sp 3 0 0 0 false false false false

@@ -7,6 +7,7 @@ use lib.Dec.{eqb}
 use borrow.Author.Tests.{le-leb}
 use Rattle.lists.specs.Tests.{either}
 use Rattle.lists.specs.Time.{due}
+use Rattle.server.specs.Limits.{maxTime, lastClock, lastNr}
 use Rattle.server.specs.declared.Server.{Server}
 use Rattle.server.specs.declared.Sporadic.{Sporadic}
 use Rattle.server.specs.declared.ServerState.{ServerState}
@@ -20,7 +21,7 @@ use Rattle.server.specs.Consumed.{last32, consumed}
 pub record Timed (clock : ℕ) (x : Sporadic) : Type 0 where
   pub tr : x .tr ≤ clock
   pub begin : x .begin ≤ clock
-  pub nr : x .nr ≤ 4_000_060_000
+  pub nr : x .nr ≤ lastNr
 
 -- and no "b above B"
 pub record Within (s : Server) (clock : ℕ) (x : ServerState) : Type 0 where
@@ -53,14 +54,14 @@ replenish-within sporadic s x t busy h =
 effective-le : (x : Sporadic) (t : ℕ) → x .tr ≤ t → x .begin ≤ t → effective x t ≤ t
 effective-le x t a b = either (λ (n : ℕ). n ≤ t) (x .above) (omega arith) (omega arith)
 
-fixed-timed : (te period t : ℕ) (x : Sporadic) → te ≤ t → period ≤ 60_000 → t ≤ 4_000_000_000 → Timed t x →
+fixed-timed : (te period t : ℕ) (x : Sporadic) → te ≤ t → period ≤ maxTime → t ≤ lastClock → Timed t x →
     Timed t (fixed te period t x)
 fixed-timed te period t x a b c h =
     either (Timed t) (eqb (te + period) t)
     (record { tr = omega arith; begin = h .begin; nr = omega arith })
     (record { tr = h .tr; begin = h .begin; nr = omega arith })
 
-first-timed : (s : Server) (e : Seen) (x : Sporadic) → s .period ≤ 60_000 → e .t ≤ 4_000_000_000 → Timed (e .t) x →
+first-timed : (s : Server) (e : Seen) (x : Sporadic) → s .period ≤ maxTime → e .t ≤ lastClock → Timed (e .t) x →
     Timed (e .t) (firstServed s e x)
 first-timed s e x a b h =
     either (Timed (e .t)) (e .serves && not (x .served))
@@ -74,14 +75,14 @@ marked-timed e x h = record {
   nr = h .nr;
 }
 
-pub consume-timed : (k : Kind) (s : Server) (x : ServerState) (e : Seen) → s .period ≤ 60_000 → e .t ≤ 4_000_000_000 →
+pub consume-timed : (k : Kind) (s : Server) (x : ServerState) (e : Seen) → s .period ≤ maxTime → e .t ≤ lastClock →
     Timed (e .t) (x .sporadic) → Timed (e .t) (consume k s x e .sporadic)
 consume-timed background s x e a b h = h
 consume-timed polling s x e a b h = h
 consume-timed deferrable s x e a b h = h
 consume-timed sporadic s x e a b h = marked-timed e (firstServed s e (x .sporadic)) (first-timed s e (x .sporadic) a b h)
 
-pub consume-within : (k : Kind) (s : Server) (x : ServerState) (e : Seen) → s .period ≤ 60_000 → e .t ≤ 4_000_000_000 →
+pub consume-within : (k : Kind) (s : Server) (x : ServerState) (e : Seen) → s .period ≤ maxTime → e .t ≤ lastClock →
     Within s (e .t) x → Within s (e .t) (consume k s x e)
 consume-within background s x e a b h = h
 consume-within polling s x e a b h = record {
@@ -103,7 +104,7 @@ consume-within sporadic s x e a b h = record {
 }
 
 -- within the limits the next replenishment fits 32 bits
-pub consumed-is-consume : (s : Server) (x : ServerState) (e : Seen) → s .period ≤ 60_000 → e .t ≤ 4_000_000_000 →
+pub consumed-is-consume : (s : Server) (x : ServerState) (e : Seen) → s .period ≤ maxTime → e .t ≤ lastClock →
     Timed (e .t) (x .sporadic) → consumed s x e ≡ consume (kindOf (s .kind)) s x e
 consumed-is-consume s x e a b h =
     let w = consume-timed (kindOf (s .kind)) s x e a b h in

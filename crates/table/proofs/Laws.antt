@@ -10,14 +10,14 @@ use lib.Dec.{leb}
 use lib.Seq.{length-take-le}
 use Rattle.lists.specs.Lists.{allWith}
 use Rattle.server.specs.Limits.{lastClock}
-use Rattle.queue.specs.Queue.{waitingOf, requestsFit}
+use Rattle.queue.specs.Queue.{maxWaiting, waitingOf, requestsFit}
 use Rattle.queue.specs.Steps.{queueFits}
 use Rattle.table.specs.declared.Task.{Task}
 use Rattle.table.specs.declared.Table.{Table}
 use Rattle.table.specs.declared.State.{State}
 use Rattle.table.specs.declared.Refusal.{Refusal}
 use Rattle.table.specs.declared.Checked.{Checked}
-use Rattle.table.specs.Limits.{taskFits, firstBad, serverFits}
+use Rattle.table.specs.Limits.{maxTasks, taskFits, firstBad, serverFits}
 use Rattle.table.specs.Refusal.{passed}
 use Rattle.table.specs.State.{tableCheck, leftFits, serverStateFits, fit}
 
@@ -52,15 +52,15 @@ module _ (t : Table) where
   pub check-none : t .n < 1 → Checked.Refused Refusal.TaskCount ≡ tableCheck t
   check-none h = rw (lt-leb 1 (t .n) h)
 
-  pub check-many : 16 < t .n → Checked.Refused Refusal.TaskCount ≡ tableCheck t
-  check-many h = rw (le-leb 1 (t .n) (omega arith), lt-leb (t .n) 16 h)
+  pub check-many : maxTasks < t .n → Checked.Refused Refusal.TaskCount ≡ tableCheck t
+  check-many h = rw (le-leb 1 (t .n) (omega arith), lt-leb (t .n) maxTasks h)
 
-  module _ (some : 1 ≤ t .n) (count : t .n ≤ 16) (room : t .n ≤ length (t .tasks)) (bad : ℕ) (e : bad ≡ firstBad (take (t .n) (t .tasks))) where
+  module _ (some : 1 ≤ t .n) (count : t .n ≤ maxTasks) (room : t .n ≤ length (t .tasks)) (bad : ℕ) (e : bad ≡ firstBad (take (t .n) (t .tasks))) where
     pub check-bad : bad < t .n → Checked.Refused (Refusal.BadTask bad) ≡ tableCheck t
     check-bad h =
         rw (
           le-leb 1 (t .n) some,
-          le-leb (t .n) 16 count,
+          le-leb (t .n) maxTasks count,
           length-take-le (t .n) (t .tasks) room,
           ← e,
           lt-ltb bad (t .n) h,
@@ -71,7 +71,7 @@ module _ (t : Table) where
     check-server h fits g =
         rw (
           le-leb 1 (t .n) some,
-          le-leb (t .n) 16 count,
+          le-leb (t .n) maxTasks count,
           length-take-le (t .n) (t .tasks) room,
           ← e,
           le-ltb bad (t .n) h,
@@ -86,7 +86,7 @@ pub fit-order : (s : State) → fit s ≡
     && (queueFits (s .progress .clock) (s .queue)
     && allWith leftFits (take (s .table .n) (s .table .tasks)) (take (s .table .n) (s .progress .left)))))
 fit-order s =
-    order (passed (tableCheck (s .table))) (leb (s .queue .n) 64) (leb (s .progress .clock) lastClock)
+    order (passed (tableCheck (s .table))) (leb (s .queue .n) maxWaiting) (leb (s .progress .clock) lastClock)
     (allWith leftFits (take (s .table .n) (s .table .tasks)) (take (s .table .n) (s .progress .left)))
     (serverStateFits (s .table .server) (s .progress .clock) (s .progress .server))
     (requestsFit (s .progress .clock) (waitingOf (s .queue)))

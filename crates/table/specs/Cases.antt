@@ -1,23 +1,21 @@
 -- Cases of the limits, each at its edge: refusals 1, 2, 3 and 11, in their order.
-use Prim.Native.Nat.{ℕ}
+use Prim.Native.Nat.{ℕ, suc}
 use mathlib.Core.Path.{_≡_, refl}
-use mathlib.Core.Bool.{Bool, true, false}
+use mathlib.Core.Bool.{true, false}
 use mathlib.Core.List.{List, [], _∷_, map}
-use lib.ListN.{length, replicate}
+use lib.ListN.{replicate}
 use Rattle.lists.specs.Lists.{overlay}
 use Rattle.server.specs.declared.Server.{Server}
-use Rattle.queue.specs.declared.Request.{Request}
 use Rattle.queue.specs.declared.Queue.{Queue}
-use Rattle.queue.specs.Queue.{freshQueue, queueWith}
+use Rattle.queue.specs.Queue.{maxWaiting, freshQueue, queueWith}
 use Rattle.table.specs.declared.Task.{Task}
 use Rattle.table.specs.declared.Table.{Table}
 use Rattle.table.specs.declared.State.{State}
-use Rattle.table.specs.declared.SetUp.{SetUp}
 use Rattle.table.specs.declared.Checked.{Checked}
 use Rattle.table.specs.declared.Refusal.{Refusal}
 use Rattle.table.specs.Limits.{maxTasks, taskFits}
 use Rattle.table.specs.Refusal.{number, value, numberOf, valueOf}
-use Rattle.table.specs.Model.{modelOf, written}
+use Rattle.table.specs.Model.{written}
 use Rattle.table.specs.State.{freshState, tableCheck, fit, setUpCall}
 
 abbrev task : ℕ → ℕ → ℕ → ℕ → Task
@@ -26,7 +24,7 @@ task f p e d = record { phase = f; period = p; exec = e; deadline = d }
 abbrev server : ℕ → ℕ → ℕ → ℕ → Server
 server k s p b = record { kind = k; place = s; period = p; budget = b }
 
--- a table of n tasks, where a list of tasks is laid over sixteen blank ones
+-- a table of n tasks, where a list of tasks is laid over blank ones
 abbrev table : List Task → ℕ → Server → Table
 table xs n s = record { tasks = overlay xs (replicate maxTasks (task 0 0 0 0)); n = n; server = s }
 
@@ -64,7 +62,7 @@ waiting w a = queueWith freshQueue (record { id = 0; work = w; arrival = a } ∷
 
 -- the first n slots in use, each with a work of 1
 abbrev many : ℕ → Queue
-many n = record { requests = replicate 64 (record { id = 0; work = 1; arrival = 0 }); n = n }
+many n = record { requests = replicate maxWaiting (record { id = 0; work = 1; arrival = 0 }); n = n }
 
 pub record LimitCases : Type 0 where
   -- "1 ≤ e ≤ D ≤ p ≤ 60,000 and f ≤ 60,000"
@@ -102,7 +100,7 @@ pub record LimitCases : Type 0 where
       record {
         table = table (good ∷ []) 1 fine;
         progress = record {
-          left = replicate 16 0;
+          left = replicate maxTasks 0;
           server = record { budget = 2; sporadic = record { tr = 0; begin = 0; nr = 0; served = false; late = false; above = false; busy = false } };
           clock = 0;
         };
@@ -123,8 +121,8 @@ pub record LimitCases : Type 0 where
   pub work-none : fit (stood fine [] 2 0 0 0 9 (waiting 0 9)) ≡ false
   pub work-past : fit (stood fine [] 2 0 0 0 9 (waiting 60_001 9)) ≡ false
   pub arrival-past : fit (stood fine [] 2 0 0 0 9 (waiting 1 10)) ≡ false
-  pub full-fits : fit (stood fine [] 2 0 0 0 9 (many 64)) ≡ true
-  pub waiting-past : fit (stood fine [] 2 0 0 0 9 (many 65)) ≡ false
+  pub full-fits : fit (stood fine [] 2 0 0 0 9 (many maxWaiting)) ≡ true
+  pub waiting-past : fit (stood fine [] 2 0 0 0 9 (many (suc maxWaiting))) ≡ false
   pub table-unfit : fit (stood (server 4 0 5 2) [] 2 0 0 0 9 freshQueue) ≡ false
   -- a model written over a state reads back, and the slots it does not reach stay
   pub written-back :

@@ -5,57 +5,55 @@ use mathlib.Core.Path.{_≡_, refl, sym, _∙_}
 use mathlib.Core.Bool.{Bool, true, false, cond, _&&_}
 use mathlib.Core.List.{List, [], _∷_}
 use borrow.Author.Tests.{leb-true, eqb-true, ltb-false, le-leb}
-use lib.ListN.{length, take, getD}
+use lib.ListN.{length, take, getD, length-take}
+use lib.Seq.{take-all}
 use lib.Dec.{leb, ltb}
 use Rattle.lists.specs.Lists.{all, allWith}
 use Rattle.lists.specs.Tests.{Every, between, every, every-facts, and-split, and-join, never}
-use Rattle.lists.specs.Loops.{all-at, all-with-at}
-use Rattle.server.specs.Limits.{lastClock, lastNr}
+use Rattle.lists.specs.Loops.{all-at}
+use Rattle.server.specs.Limits.{maxTime, lastClock, lastNr}
 use Rattle.server.specs.declared.Server.{Server}
 use Rattle.server.specs.declared.ServerState.{ServerState}
 use Rattle.server.specs.Kind.{kindOf}
 use Rattle.server.specs.Within.{Within}
-use Rattle.queue.specs.Queue.{waitingOf, requestsFit}
+use Rattle.queue.specs.Queue.{maxWaiting, waitingOf, requestsFit}
 use Rattle.table.specs.declared.Task.{Task}
 use Rattle.table.specs.declared.Table.{Table}
 use Rattle.table.specs.declared.State.{State}
 use Rattle.table.specs.declared.Refusal.{Refusal}
 use Rattle.table.specs.declared.Checked.{Checked}
-use Rattle.table.specs.Limits.{maxTasks, taskTests, taskFits, firstBad, serverTests, backgroundTests, budgetTests, serverFits, checkServer, checkTasks}
+use Rattle.table.specs.Limits.{maxTasks, lastKind, taskTests, taskFits, firstBad, serverTests, backgroundTests, budgetTests, serverFits, checkServer, checkTasks}
 use Rattle.table.specs.Refusal.{passed}
 use Rattle.table.specs.State.{tableCheck, leftFits, sporadicFits, serverStateFits, modelFits, fit}
 use Rattle.table.specs.Model.{taskSetOf, modelOf}
+pub use Rattle.table.specs.Model.{noTask}
 
 -- ---- a task
 pub record TaskLimits (x : Task) : Type 0 where
   pub some : 1 ≤ x .exec
   pub within : x .exec ≤ x .deadline
   pub constrained : x .deadline ≤ x .period
-  pub period : x .period ≤ 60_000
-  pub phase : x .phase ≤ 60_000
+  pub period : x .period ≤ maxTime
+  pub phase : x .phase ≤ maxTime
 
 pub task-limits : (x : Task) → taskFits x ≡ true → TaskLimits x
 task-limits x e = let h : Every (taskTests x) = every-facts (taskTests x) e in omega (arith, leb-true)
 
--- what stands past the end of the tasks
-abbrev pub noTask : Task
-noTask = record { phase = 0; period = 0; exec = 0; deadline = 0 }
-
 -- ---- a server: kind 0 has no period and no budget, the others have both
 pub record ServerLimits (s : Server) (n : ℕ) : Type 0 where
-  pub kind : s .kind ≤ 3
+  pub kind : s .kind ≤ lastKind
   pub place : s .place ≤ n
   pub within : s .budget ≤ s .period
-  pub period : s .period ≤ 60_000
+  pub period : s .period ≤ maxTime
   pub some : 0 < s .kind → 1 ≤ s .budget
 
 abbrev LimitsAt : Server → ℕ → ℕ → Type 0
-LimitsAt s n k = (s .place ≤ n) × (s .budget ≤ s .period) × (s .period ≤ 60_000) × (0 < k → 1 ≤ s .budget)
+LimitsAt s n k = (s .place ≤ n) × (s .budget ≤ s .period) × (s .period ≤ maxTime) × (0 < k → 1 ≤ s .budget)
 
 pub server-limits : (s : Server) (n : ℕ) → serverFits s n ≡ true → ServerLimits s n
 server-limits s n e =
-    let both = and-split (leb (s .kind) 3) (every (serverTests (kindOf (s .kind)) s n)) e in
-    let kind = leb-true (s .kind) 3 (both .0) in
+    let both = and-split (leb (s .kind) lastKind) (every (serverTests (kindOf (s .kind)) s n)) e in
+    let kind = leb-true (s .kind) lastKind (both .0) in
     let rest = by (s .kind) kind (both .1) in
     record { kind = kind; place = rest .0; within = rest .1; period = rest .2; some = rest .3 }
   where
@@ -64,7 +62,7 @@ server-limits s n e =
         let h : Every (budgetTests s n) = every-facts (budgetTests s n) e in
         (leb-true _ _ (h .0), leb-true _ _ (h .1 .1 .0), leb-true _ _ (h .1 .1 .1 .0), λ p. leb-true _ _ (h .1 .0))
 
-    by : (k : ℕ) → k ≤ 3 → every (serverTests (kindOf k) s n) ≡ true → LimitsAt s n k
+    by : (k : ℕ) → k ≤ lastKind → every (serverTests (kindOf k) s n) ≡ true → LimitsAt s n k
     by zero k e =
         let h : Every (backgroundTests s n) = every-facts (backgroundTests s n) e in
         let place = eqb-true (s .place) n (h .0) in
@@ -79,7 +77,7 @@ server-limits s n e =
 -- ---- a table that passes refusals 1, 2 and 3
 pub record TableFacts (t : Table) : Type 0 where
   pub some : 1 ≤ t .n
-  pub count : t .n ≤ 16
+  pub count : t .n ≤ maxTasks
   pub tasks : all taskFits (take (t .n) (t .tasks)) ≡ true
   pub server : ServerLimits (t .server) (t .n)
 
@@ -126,13 +124,19 @@ table-facts t e =
 pub task-at : (t : Table) (i : ℕ) → TableFacts t → i < t .n → i < length (t .tasks) → TaskLimits (getD (t .tasks) i noTask)
 task-at t i f h k = task-limits _ (all-at taskFits noTask i (t .n) (t .tasks) h k (f .tasks))
 
+-- the same of the list of them
+pub task-used : (t : Table) (i : ℕ) → TableFacts t → i < length (taskSetOf t .tasks) → TaskLimits (getD (taskSetOf t .tasks) i noTask)
+task-used t i f h =
+    let n : length (taskSetOf t .tasks) ≤ t .n = omega (arith, length-take (t .n) (t .tasks)) in
+    task-limits _ (all-at taskFits noTask i (t .n) (taskSetOf t .tasks) (omega arith) h (rw (take-all (t .n) (taskSetOf t .tasks) n) (f .tasks)))
+
 -- ---- a fit state
 pub record StateFacts (s : State) : Type 0 where
   pub passes : passed (tableCheck (s .table)) ≡ true
-  pub clock : s .progress .clock ≤ 4_000_000_000
+  pub clock : s .progress .clock ≤ lastClock
   pub lefts : allWith leftFits (take (s .table .n) (s .table .tasks)) (take (s .table .n) (s .progress .left)) ≡ true
   pub server : Within (s .table .server) (s .progress .clock) (s .progress .server)
-  pub waiting : s .queue .n ≤ 64
+  pub waiting : s .queue .n ≤ maxWaiting
   pub requests : requestsFit (s .progress .clock) (waitingOf (s .queue)) ≡ true
 
 pub server-within : (s : Server) (clock : ℕ) (x : ServerState) → serverStateFits s clock x ≡ true → Within s clock x
@@ -167,8 +171,8 @@ module _ (s : State) where
 
   pub fit-facts : fit s ≡ true → StateFacts s
   fit-facts e =
-      let a = and-split (passed (tableCheck (s .table)) && leb (s .queue .n) 64) (modelFits (taskSetOf (s .table)) (modelOf s)) e in
-      let b = and-split (passed (tableCheck (s .table))) (leb (s .queue .n) 64) (a .0) in
+      let a = and-split (passed (tableCheck (s .table)) && leb (s .queue .n) maxWaiting) (modelFits (taskSetOf (s .table)) (modelOf s)) e in
+      let b = and-split (passed (tableCheck (s .table))) (leb (s .queue .n) maxWaiting) (a .0) in
       let r = and-split (clockFits && leftsFit && budgetFits) waitingFit (a .1) in
       let v = and-split (clockFits && leftsFit) budgetFits (r .0) in
       let c = and-split clockFits leftsFit (v .0) in
@@ -183,15 +187,9 @@ module _ (s : State) where
 
   pub facts-fit : StateFacts s → fit s ≡ true
   facts-fit f =
-      and-join (passed (tableCheck (s .table)) && leb (s .queue .n) 64) (modelFits (taskSetOf (s .table)) (modelOf s))
-      (and-join (passed (tableCheck (s .table))) (leb (s .queue .n) 64) (f .passes) (le-leb _ _ (f .waiting)))
+      and-join (passed (tableCheck (s .table)) && leb (s .queue .n) maxWaiting) (modelFits (taskSetOf (s .table)) (modelOf s))
+      (and-join (passed (tableCheck (s .table))) (leb (s .queue .n) maxWaiting) (f .passes) (le-leb _ _ (f .waiting)))
       (and-join (clockFits && leftsFit && budgetFits) waitingFit
       (and-join (clockFits && leftsFit) budgetFits (and-join clockFits leftsFit (le-leb _ _ (f .clock)) (f .lefts))
       (within-server (s .table .server) (s .progress .clock) (s .progress .server) (f .server)))
       (f .requests))
-
-  -- what is left of a task in use
-  pub left-at : (i : ℕ) → StateFacts s → i < s .table .n → i < length (s .table .tasks) → i < length (s .progress .left) →
-      getD (s .progress .left) i 0 ≤ getD (s .table .tasks) i noTask .exec
-  left-at i f h k m =
-      leb-true _ _ (all-with-at leftFits noTask 0 i (s .table .n) (s .table .tasks) (s .progress .left) h k m (f .lefts))

@@ -24,6 +24,10 @@ pub record Model : Type 0 where
   pub server : ServerState
   pub clock : ℕ
 
+-- what stands past the end of the tasks
+abbrev pub noTask : Task
+noTask = record { phase = 0; period = 0; exec = 0; deadline = 0 }
+
 abbrev pub taskSetOf : Table → TaskSet
 taskSetOf t = record { tasks = take (t .n) (t .tasks); server = t .server }
 

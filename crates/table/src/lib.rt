@@ -4,7 +4,7 @@ ghost use Prim.Native.Nat.{_≤_};
 ghost use lib.ListN.{take};
 ghost use Rattle.lists.specs.Lists.{allWith};
 ghost use Rattle.lists.specs.Tests.{every};
-ghost use Rattle.table.specs.Limits.{taskFits, firstBad, budgetTests, backgroundTests, serverFits};
+ghost use Rattle.table.specs.Limits.{maxTasks, taskFits, firstBad, budgetTests, backgroundTests, serverFits};
 ghost use mathlib.Core.Bool.{true};
 ghost use Rattle.table.specs.Refusal.{number, passed};
 ghost use Rattle.table.specs.State.{freshState, tableCheck, leftFits, serverStateFits, fit, setUpCall};
@@ -163,7 +163,7 @@ impl Table {
 
 // The first of the n tasks in use that breaks its limits, or n.
 fn first_bad(tasks: [Task; Table::MAX_TASKS as usize], n: u32) -> u32
-    requires { ⌜ n ≤ 16 ⌝ }
+    requires { ⌜ n ≤ maxTasks ⌝ }
     ensures { λ r. ⌜ r ≡ firstBad (take n tasks) ⌝ }
 {
     let mut i: u32 = 0;
@@ -262,7 +262,7 @@ fn lefts_fit(
     left: [u32; Table::MAX_TASKS as usize],
     n: u32,
 ) -> bool
-    requires { ⌜ n ≤ 16 ⌝ }
+    requires { ⌜ n ≤ maxTasks ⌝ }
     ensures { λ r. ⌜ r ≡ allWith leftFits (take n tasks) (take n left) ⌝ }
 {
     let end = n as usize;

@@ -4,13 +4,13 @@ use mathlib.Core.Path.{_≡_, refl, sym, ap, _∙_, subst}
 use mathlib.Core.List.{List, [], _∷_, _++_, append-nil}
 use mathlib.Core.Bool.{Bool, true, false}
 use native.Mathlib.Omega.{arith}
-use native.Mathlib.Nat.{pow-suc}
 use native.Mathlib.Numerals.{add-one}
 use lib.ListN.{length, set, length-set, length-append}
 use lib.Seq.{sets}
 use lib.Dec.{ltb}
-use Rattle.text.specs.Decimal.{widthFrom, widthOf, digitsOf, decimal}
+use Rattle.text.specs.Decimal.{maxDigits, widthFrom, widthOf, digitsOf, decimal}
 use Rattle.text.specs.Buffer.{Wrote}
+use Rattle.text.specs.ReadBack.{length-digits}
 
 module _ (x : ℕ) where
   pub width-here : (k w : ℕ) → ltb x (10 ^ w) ≡ true → widthFrom (suc k) w x ≡ w
@@ -25,27 +25,18 @@ module _ (x : ℕ) where
   unfolding widthFrom
   width-last w = refl
 
--- a turn of the search for the width, at w below 10
-module _ (x w : ℕ) (h : w < 10) where
-  left-suc : 10 - w ≡ suc (9 - w)
+-- a turn of the search for the width
+module _ (x w : ℕ) (h : w < maxDigits) where
+  left-suc : maxDigits - w ≡ suc (maxDigits - 1 - w)
   left-suc = omega arith
 
-  pub width-found : ltb x (10 ^ w) ≡ true → widthFrom (10 - w) w x ≡ w
-  width-found e = ap (λ (k : ℕ). widthFrom k w x) left-suc ∙ width-here x (9 - w) w e
+  pub width-found : ltb x (10 ^ w) ≡ true → widthFrom (maxDigits - w) w x ≡ w
+  width-found e = ap (λ (k : ℕ). widthFrom k w x) left-suc ∙ width-here x (maxDigits - 1 - w) w e
 
-  pub width-on : ltb x (10 ^ w) ≡ false → widthFrom (10 - w) w x ≡ widthFrom (10 - (w + 1)) (w + 1) x
+  pub width-on : ltb x (10 ^ w) ≡ false → widthFrom (maxDigits - w) w x ≡ widthFrom (maxDigits - (w + 1)) (w + 1) x
   width-on e =
-      let k : 9 - w ≡ 10 - (w + 1) = omega arith in
-      ap (λ (k : ℕ). widthFrom k w x) left-suc ∙ width-next x (9 - w) w e ∙ ap (λ (k : ℕ). widthFrom k (w + 1) x) k
-
-pub ten-pos : (k : ℕ) → 1 ≤ 10 ^ k
-ten-pos zero = omega arith
-ten-pos (suc k) = omega (arith, ten-pos k, pow-suc 10 k)
-
-pub length-digits : (w x : ℕ) → length (digitsOf w x) ≡ w
-unfolding digitsOf
-length-digits zero x = refl
-length-digits (suc w) x = ap suc (length-digits w x)
+      let k : maxDigits - 1 - w ≡ maxDigits - (w + 1) = omega arith in
+      ap (λ (k : ℕ). widthFrom k w x) left-suc ∙ width-next x (maxDigits - 1 - w) w e ∙ ap (λ (k : ℕ). widthFrom k (w + 1) x) k
 
 -- a turn of the number writer: what is left to write, from here
 pub digit-on :

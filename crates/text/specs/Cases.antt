@@ -1,10 +1,10 @@
--- Lines of document 01's listing and numbers at the edges, computed.
+-- Numbers at the edges and a line of document 01's listing, computed.
 use Prim.Native.Nat.{ℕ}
 use mathlib.Core.Path.{_≡_, refl}
-use mathlib.Core.Bool.{true, false}
 use mathlib.Core.List.{List, [], _∷_}
 use Rattle.text.specs.Decimal.{widthFrom, widthOf, digitsOf, decimal}
-use Rattle.text.specs.Lines.{lineBytes, taskBoundLine, serverBoundLine, admittedLine, refusedLine, tickLine, finishLine, planRefusedLine}
+use Rattle.text.specs.declared.Part.{Part}
+use Rattle.text.specs.Lines.{lineBytes}
 
 unfoldable pub rules : Unit {0}
 unfolding widthFrom widthOf digitsOf decimal lineBytes
@@ -20,50 +20,18 @@ largest : decimal 4294967295 ≡ 52 ∷ 50 ∷ 57 ∷ 52 ∷ 57 ∷ 54 ∷ 55 �
 unfolding rules
 largest = refl
 
--- 999999999 and 1000000000
+-- 999999999
 nine-digits : decimal 999999999 ≡ 57 ∷ 57 ∷ 57 ∷ 57 ∷ 57 ∷ 57 ∷ 57 ∷ 57 ∷ 57 ∷ []
 unfolding rules
 nine-digits = refl
 
+-- 1000000000
 ten-digits : decimal 1000000000 ≡ 49 ∷ 48 ∷ 48 ∷ 48 ∷ 48 ∷ 48 ∷ 48 ∷ 48 ∷ 48 ∷ 48 ∷ []
 unfolding rules
 ten-digits = refl
 
--- B,0,6
-task-bound : lineBytes (taskBoundLine 0 6) ≡ 66 ∷ 44 ∷ 48 ∷ 44 ∷ 54 ∷ 10 ∷ []
-unfolding rules
-task-bound = refl
-
--- B,S,2
-server-bound : lineBytes (serverBoundLine 2) ≡ 66 ∷ 44 ∷ 83 ∷ 44 ∷ 50 ∷ 10 ∷ []
-unfolding rules
-server-bound = refl
-
--- V,1 and V,0
-admitted : lineBytes (admittedLine true) ≡ 86 ∷ 44 ∷ 49 ∷ 10 ∷ []
-unfolding rules
-admitted = refl
-
-not-admitted : lineBytes (admittedLine false) ≡ 86 ∷ 44 ∷ 48 ∷ 10 ∷ []
-unfolding rules
-not-admitted = refl
-
 -- X,3,A,7,0
-tick-three : lineBytes (tickLine 3 65 7 0) ≡ 88 ∷ 44 ∷ 51 ∷ 44 ∷ 65 ∷ 44 ∷ 55 ∷ 44 ∷ 48 ∷ 10 ∷ []
+a-line : lineBytes (record { letter = 88; first = Part.Number 3; second = Part.Letter 65; third = Part.Number 7; fourth = Part.Number 0 }) ≡
+    88 ∷ 44 ∷ 51 ∷ 44 ∷ 65 ∷ 44 ∷ 55 ∷ 44 ∷ 48 ∷ 10 ∷ []
 unfolding rules
-tick-three = refl
-
--- F,6,7,4
-finish-six : lineBytes (finishLine 6 7 4) ≡ 70 ∷ 44 ∷ 54 ∷ 44 ∷ 55 ∷ 44 ∷ 52 ∷ 10 ∷ []
-unfolding rules
-finish-six = refl
-
--- N,12,7,5
-refused-twelve : lineBytes (refusedLine 12 7 5) ≡ 78 ∷ 44 ∷ 49 ∷ 50 ∷ 44 ∷ 55 ∷ 44 ∷ 53 ∷ 10 ∷ []
-unfolding rules
-refused-twelve = refl
-
--- Z,9,1
-plan-refused : lineBytes (planRefusedLine 9 1) ≡ 90 ∷ 44 ∷ 57 ∷ 44 ∷ 49 ∷ 10 ∷ []
-unfolding rules
-plan-refused = refl
+a-line = refl

@@ -4,6 +4,10 @@ use mathlib.Core.Bool.{Bool, true, false, cond, _&&_}
 use mathlib.Core.List.{List, [], _∷_}
 use lib.Dec.{ltb, leb}
 
+-- "A number is 1 to 10 digits"
+abbrev pub maxDigits : ℕ
+maxDigits = 10
+
 -- the least width from w on that x fits, at most k more
 unfoldable pub widthFrom : ℕ → ℕ → ℕ → ℕ
 widthFrom zero w x = w
@@ -11,7 +15,7 @@ widthFrom (suc k) w x = cond (ltb x (10 ^ w)) w (widthFrom k (w + 1) x)
 
 -- the number of digits of a number: "1 to 10 digits"
 unfoldable pub widthOf : ℕ → ℕ
-widthOf x = widthFrom 9 1 x
+widthOf x = widthFrom (maxDigits - 1) 1 x
 
 -- the last w digits of x, highest first; 48 is the byte `0`
 unfoldable pub digitsOf : ℕ → ℕ → List ℕ

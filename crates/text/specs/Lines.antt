@@ -1,10 +1,17 @@
--- The lines that `schedule` prints, and their bytes.
-use Prim.Native.Nat.{ℕ}
-use mathlib.Core.Bool.{Bool, true, false, cond}
+-- A line and its bytes.
+use Prim.Native.Nat.{ℕ, _+_, _*_}
 use mathlib.Core.List.{List, [], _∷_, _++_}
 use Rattle.text.specs.declared.Part.{Part}
 use Rattle.text.specs.declared.Line.{Line}
-use Rattle.text.specs.Decimal.{decimal}
+use Rattle.text.specs.Decimal.{maxDigits, decimal}
+
+-- the most bytes of a part: its comma and a number's digits
+abbrev pub partRoom : ℕ
+partRoom = 1 + maxDigits
+
+-- the most bytes of a line: its letter, four parts and the line feed
+abbrev pub lineRoom : ℕ
+lineRoom = 2 + 4 * partRoom
 
 -- a comma and the part
 abbrev pub partBytes : Part → List ℕ
@@ -17,76 +24,3 @@ unfoldable pub lineBytes : Line → List ℕ
 lineBytes l =
     (l .letter ∷ [])
     ++ (partBytes (l .first) ++ (partBytes (l .second) ++ (partBytes (l .third) ++ (partBytes (l .fourth) ++ (10 ∷ [])))))
-
--- "B: row (or S) and bound."
-abbrev pub taskBoundLine : ℕ → ℕ → Line
-taskBoundLine row bound = record {
-  letter = 66;
-  first = Part.Number row;
-  second = Part.Number bound;
-  third = Part.Nothing;
-  fourth = Part.Nothing;
-}
-
-abbrev pub serverBoundLine : ℕ → Line
-serverBoundLine bound = record {
-  letter = 66;
-  first = Part.Letter 83;
-  second = Part.Number bound;
-  third = Part.Nothing;
-  fourth = Part.Nothing;
-}
-
--- "V: admitted 1 or 0"
-abbrev pub bitOf : Bool → ℕ
-bitOf true = 1
-bitOf false = 0
-
-abbrev pub admittedLine : Bool → Line
-admittedLine admitted = record {
-  letter = 86;
-  first = Part.Number (bitOf admitted);
-  second = Part.Nothing;
-  third = Part.Nothing;
-  fourth = Part.Nothing;
-}
-
--- "A request refused for a full queue prints `N,tick,id,5`"
-abbrev pub refusedLine : ℕ → ℕ → ℕ → Line
-refusedLine tick id number = record {
-  letter = 78;
-  first = Part.Number tick;
-  second = Part.Number id;
-  third = Part.Number number;
-  fourth = Part.Nothing;
-}
-
--- "X: tick, I idle or T row or A request, row or id, drops."
-abbrev pub tickLine : ℕ → ℕ → ℕ → ℕ → Line
-tickLine tick occupant id drops = record {
-  letter = 88;
-  first = Part.Number tick;
-  second = Part.Letter occupant;
-  third = Part.Number id;
-  fourth = Part.Number drops;
-}
-
--- "F, after its X: tick, id, response."
-abbrev pub finishLine : ℕ → ℕ → ℕ → Line
-finishLine tick id response = record {
-  letter = 70;
-  first = Part.Number tick;
-  second = Part.Number id;
-  third = Part.Number response;
-  fourth = Part.Nothing;
-}
-
--- "A refused plan prints only `Z,number,line`."
-abbrev pub planRefusedLine : ℕ → ℕ → Line
-planRefusedLine number line = record {
-  letter = 90;
-  first = Part.Number number;
-  second = Part.Number line;
-  third = Part.Nothing;
-  fourth = Part.Nothing;
-}

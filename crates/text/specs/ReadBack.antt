@@ -1,4 +1,4 @@
--- What is written of a number reads back as the number: its digits say it, there are 1 to 10 of them, and the first is `0` only
+-- What is written of a number reads back as the number: its digits say it, there are 1 to maxDigits of them, and the first is `0` only
 -- where it stands alone.
 use Prim.Native.Nat.{ℕ, zero, suc, _+_, _-_, _*_, _/_, _%_, _^_, _≤_, _<_}
 use mathlib.Core.Path.{_≡_, refl, sym, ap, _∙_, subst}
@@ -9,7 +9,11 @@ use native.Mathlib.Nat.{pow-zero, pow-suc, div-one, div-div-eq-div-mul, div-add-
 use borrow.Author.Tests.{ltb-true, ltb-false, le-leb}
 use lib.ListN.{length, getD}
 use lib.Dec.{ltb, leb}
-use Rattle.text.specs.Decimal.{widthFrom, widthOf, digitsOf, decimal, isDigit, digits, valueFrom}
+use Rattle.text.specs.Decimal.{maxDigits, widthFrom, widthOf, digitsOf, decimal, isDigit, digits, valueFrom}
+
+pub ten-pos : (k : ℕ) → 0 < 10 ^ k
+ten-pos zero = omega arith
+ten-pos (suc k) = omega (arith, ten-pos k, pow-suc 10 k)
 
 -- the number above the last w digits, read on through them, is the whole number
 value-digits : (w x : ℕ) → valueFrom (x / 10 ^ w) (digitsOf w x) ≡ x
@@ -70,11 +74,11 @@ width-found (suc k) w x = by (ltb x (10 ^ w)) refl (width-found k (w + 1) x)
             let same : p ≡ w = omega (arith, ltb-false w p f) in
             rw same (ltb-false x (10 ^ w) e)
 
-found : (x : ℕ) → Width 9 1 x (widthOf x)
+found : (x : ℕ) → Width (maxDigits - 1) 1 x (widthOf x)
 unfolding widthOf
-found x = width-found 9 1 x
+found x = width-found (maxDigits - 1) 1 x
 
-pub decimal-short : (x : ℕ) → length (decimal x) ≤ 10
+pub decimal-short : (x : ℕ) → length (decimal x) ≤ maxDigits
 unfolding decimal
 decimal-short x = omega (arith, length-digits (widthOf x) x, found x .most)
 
@@ -86,8 +90,8 @@ pub decimal-digits : (x : ℕ) → digits (decimal x) ≡ true
 unfolding decimal
 decimal-digits x = all-digits (widthOf x) x
 
--- "A number is 1 to 10 digits": those that fit them
-module _ (x : ℕ) (h : x < 10 ^ 10) where
+-- numbers that fit into that many digits
+module _ (x : ℕ) (h : x < 10 ^ maxDigits) where
   pub decimal-value : valueFrom 0 (decimal x) ≡ x
   unfolding decimal
   decimal-value =
@@ -102,10 +106,6 @@ module _ (x : ℕ) (h : x < 10 ^ 10) where
       let one : 1 ≤ x / 10 ^ p = le-div-iff-mul-le pos .1 (omega arith) in
       let ten : x / 10 ^ p < 10 = div-lt-iff-lt-mul pos .1 (omega arith) in
       rw (mod-eq-of-lt ten) one
-    where
-      ten-pos : (k : ℕ) → 0 < 10 ^ k
-      ten-pos zero = omega arith
-      ten-pos (suc k) = omega (arith, ten-pos k, pow-suc 10 k)
 
   pub decimal-leads : getD (decimal x) 0 0 ≡ 48 → length (decimal x) ≡ 1
   unfolding decimal digitsOf

@@ -4,6 +4,8 @@ use native.Mathlib.Omega.{arith}
 use mathlib.Core.Path.{_≡_, refl, ap, _∙_}
 use lib.ListN.{length, take}
 use borrow.Author.Needs.{needs}
+use Rattle.scheduler.specs.Parts.{blockTicks}
+use Rattle.text.specs.Lines.{lineRoom}
 use Rattle.text.specs.Buffer.{Wrote, wrote-same, wrote-length}
 use Rattle.output.specs.Blocks.{entryLine, blockText}
 use Rattle.output.proofs.Laws.{numbered-next, numbered-none}
@@ -12,7 +14,7 @@ use Rattle.output.proofs.block_lines.Tie as tie
 
 abbrev Inv-loop : tie.InvT-loop
 Inv-loop out₀ at t k entries end₀ i₀ out end i =
-    (i ≤ k) × (end ≤ at + i * 46) × (length entries ≡ 32) × (length out ≡ length out₀) × (Wrote out₀ at (blockText t (take i entries)) out end)
+    (i ≤ k) × (end ≤ at + i * lineRoom) × (length entries ≡ blockTicks) × (length out ≡ length out₀) × (Wrote out₀ at (blockText t (take i entries)) out end)
 
 abbrev μ-loop : tie.MeasureT-loop
 μ-loop out₀ at t k entries end₀ i₀ out end i = k - i

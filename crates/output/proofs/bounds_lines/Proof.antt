@@ -2,18 +2,21 @@
 use mathlib.Core.Path.{_≡_, refl, ap, _∙_}
 use native.Mathlib.Omega.{arith}
 use Prim.Native.Nat.{ℕ, _≤_, _-_, _*_}
+use Rattle.table.specs.Limits.{maxTasks}
+use Rattle.output.specs.Rooms.{headRoom}
 use Rattle.output.proofs.Laws.{numbered-next, numbered-none}
 use lib.ListN.{length, take}
 use Rattle.text.specs.Buffer.{Wrote, wrote-same, wrote-length}
 use native.Mathlib.Nat.{zero-add}
-use Rattle.text.specs.Lines.{taskBoundLine}
+use Rattle.text.specs.Lines.{lineRoom}
+use Rattle.lines.specs.Lines.{taskBoundLine}
 use Rattle.output.specs.Output.{boundsText}
 use borrow.Author.Needs.{needs}
 use Rattle.output.proofs.bounds_lines.Statement.{statement}
 use Rattle.output.proofs.bounds_lines.Tie as tie
 
 abbrev Inv-loop : tie.InvT-loop
-Inv-loop out₀ n bounds at₀ i₀ out at i = (i ≤ n) × (at ≤ i * 46) × (n ≤ 16) × (828 ≤ length out₀) × (length bounds ≡ 16) × (length out ≡ length out₀) × (Wrote out₀ 0 (boundsText 0 (take i bounds)) out at)
+Inv-loop out₀ n bounds at₀ i₀ out at i = (i ≤ n) × (at ≤ i * lineRoom) × (n ≤ maxTasks) × (headRoom ≤ length out₀) × (length bounds ≡ maxTasks) × (length out ≡ length out₀) × (Wrote out₀ 0 (boundsText 0 (take i bounds)) out at)
 
 abbrev μ-loop : tie.MeasureT-loop
 μ-loop out₀ n bounds at₀ i₀ out at i = n - i

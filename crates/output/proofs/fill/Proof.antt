@@ -4,6 +4,7 @@ use mathlib.Core.Path.{_≡_, refl}
 use native.Mathlib.Omega.{arith}
 use Prim.Native.Nat.{_≤_, _-_}
 use lib.ListN.{length}
+use Rattle.output.specs.Rooms.{stepRoom}
 use Rattle.output.proofs.Steps.{Filling, filling-starts, filling-on, filling-over, filling-full}
 use Rattle.output.specs.Pieces.{stepsLeft}
 use borrow.Author.Needs.{needs}
@@ -11,7 +12,7 @@ use Rattle.output.proofs.fill.Statement.{statement}
 use Rattle.output.proofs.fill.Tie as tie
 
 abbrev Inv-loop : tie.InvT-loop
-Inv-loop plan ticks out₀ n last place₀ at₀ out place at = (at ≤ length out₀) × (n ≡ length out₀) × (last ≡ n - 92) × (92 ≤ n) × (Filling plan ticks out₀ place₀ out at place)
+Inv-loop plan ticks out₀ n last place₀ at₀ out place at = (at ≤ length out₀) × (n ≡ length out₀) × (last ≡ n - stepRoom) × (stepRoom ≤ n) × (Filling plan ticks out₀ place₀ out at place)
 
 abbrev μ-loop : tie.MeasureT-loop
 μ-loop plan ticks out₀ n last place₀ at₀ out place at = stepsLeft plan ticks place

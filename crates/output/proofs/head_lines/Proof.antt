@@ -1,21 +1,26 @@
 -- `output::head_lines` meets its contract: the B lines of the tasks in use, then the verdict.
-use mathlib.Core.Path.{ap}
+use Prim.Native.Nat.{ℕ}
+use mathlib.Core.Path.{ap, _∙_}
+use lib.ListN.{take}
 use native.Mathlib.Omega.{arith}
-use Rattle.output.proofs.Laws.{in-use}
+use Rattle.table.specs.Limits.{maxTasks}
+use Rattle.output.proofs.Laws.{in-use, lesser-both}
 use Rattle.text.specs.Buffer.{then, wrote-same}
 use Rattle.output.specs.Output.{boundsText, headText}
 use borrow.Author.Needs.{needs}
 use Rattle.output.proofs.head_lines.Statement.{statement}
 use Rattle.output.proofs.head_lines.Tie as tie
 
-in-use-requires : tie.Need-in-use-requires
-in-use-requires c κs = search needs
+lesser-requires : tie.Need-lesser-requires
+lesser-requires c κs = search needs
 
 bounds-lines-requires : tie.Need-bounds-lines-requires
-bounds-lines-requires c κs = search needs
+bounds-lines-requires c κs = (lesser-both (c .before .before .before .before .args .n) maxTasks (c .lesser .ensures) .1, search needs)
 
 verdict-lines-requires : tie.Need-verdict-lines-requires
-verdict-lines-requires c κs = search needs
+verdict-lines-requires c κs =
+    let few = lesser-both (c .before .before .before .before .before .before .before .before .args .n) maxTasks (c .before .before .before .before .lesser .ensures) in
+    omega arith
 
 same-length : tie.Need-same-length
 same-length c = search needs
@@ -24,12 +29,14 @@ returns : tie.Need-returns
 unfolding headText
 returns c =
     let b = c .before .before .before .before .before .before .bounds-lines .ensures in
-    let u = c .before .before .before .before .before .before .before .in-use .ensures in (
+    let s = c .before .before .before .before .before .before .before .before .before .before .before .args in
+    let u = c .before .before .before .before .before .before .before .lesser .ensures in
+    let few = lesser-both (s .n) maxTasks u in (
       omega arith,
-      then (wrote-same (ap (boundsText 0) (in-use (c .before .before .before .before .before .before .before .before .before .before .before .args .n) _ _ (b .0) (u .2) (u .3))) (b .2)) (c .before .before .verdict-lines .ensures .1),
+      then (wrote-same (ap (boundsText 0) (ap (λ (k : ℕ). take k (s .a .bounds)) u ∙ in-use (s .n) _ (b .0))) (b .2)) (c .before .before .verdict-lines .ensures .1),
     )
 
 pub head-lines-spec : {M : Type 1} → statement M
 head-lines-spec =
     tie.close
-    (tie.spec in-use-requires bounds-lines-requires verdict-lines-requires same-length returns)
+    (tie.spec lesser-requires bounds-lines-requires verdict-lines-requires same-length returns)

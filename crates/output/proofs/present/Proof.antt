@@ -3,7 +3,7 @@ use mathlib.Core.Path.{ap}
 use native.Mathlib.Omega.{arith}
 use Rattle.output.proofs.Laws.{place-same}
 use Rattle.text.specs.Buffer.{wrote-same}
-use Rattle.output.specs.Output.{askedText}
+use Rattle.output.specs.Output.{answerText}
 use Rattle.rules.specs.declared.Moved.{Moved}
 use borrow.Author.Needs.{needs}
 use Rattle.output.proofs.present.Statement.{statement}
@@ -12,8 +12,8 @@ use Rattle.output.proofs.present.Tie as tie
 request-requires : tie.Need-request-requires
 request-requires c κs = search needs
 
-asked-line-requires : tie.Need-asked-line-requires
-asked-line-requires c κs = search needs
+answer-line-requires : tie.Need-answer-line-requires
+answer-line-requires c κs = search needs
 
 next-arrival-requires : tie.Need-next-arrival-requires
 next-arrival-requires c κs = search needs
@@ -24,11 +24,11 @@ same-length c = search needs
 returns : tie.Need-returns
 returns c = (
   omega arith,
-  wrote-same (ap (λ (m : Moved). askedText (c .before .before .before .before .before .before .before .before .before .before .args .p .tick) (c .before .before .before .before .before .before .before .before .before .before .args .a .id) (m .answer)) (c .before .before .before .before .before .before .request .ensures)) (c .before .before .before .asked-line .ensures .1),
+  wrote-same (ap (λ (m : Moved). answerText (c .before .before .before .before .before .before .before .before .before .before .args .p .tick) (c .before .before .before .before .before .before .before .before .before .before .args .a .id) (m .answer)) (c .before .before .before .before .before .before .request .ensures)) (c .before .before .before .answer-line .ensures .1),
   place-same (c .before .before .before .before .before .before .before .before .before .before .args .p .tick) (c .next-arrival .ensures) (ap (λ (m : Moved). m .state) (c .before .before .before .before .before .before .request .ensures)),
 )
 
 pub present-spec : {M : Type 1} → statement M
 present-spec =
     tie.close
-    (tie.spec request-requires asked-line-requires next-arrival-requires same-length returns)
+    (tie.spec request-requires answer-line-requires next-arrival-requires same-length returns)

@@ -3,7 +3,7 @@ use mathlib.Core.Path.{ap, _∙_}
 use native.Mathlib.Omega.{arith}
 use Prim.Native.Nat.{ℕ}
 use Rattle.output.proofs.Laws.{line-or}
-use Rattle.text.specs.Lines.{planRefusedLine}
+use Rattle.lines.specs.Lines.{planRefusedLine}
 use borrow.Author.Needs.{needs}
 use Rattle.output.proofs.refused.Statement.{statement}
 use Rattle.output.proofs.refused.Tie as tie

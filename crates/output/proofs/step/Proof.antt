@@ -1,7 +1,7 @@
 -- `output::step` meets its contract: an A line that is due, or ticks.
 use mathlib.Core.Path.{sym, subst}
 use borrow.Author.Needs.{needs}
-use Rattle.output.proofs.Steps.{step-asked, step-ran, later-found, later-done}
+use Rattle.output.proofs.Steps.{step-arrival, step-ran, later-found, later-done}
 use Rattle.output.proofs.step.Statement.{statement}
 use Rattle.output.proofs.step.Tie as tie
 
@@ -31,7 +31,7 @@ returns : tie.Need-returns
 returns c =
     let a = c .before .before .before .before .before .before .before .before .before .before .before .before in
     let x = c .before .before .present .ensures in
-    step-asked _ _ (a .args .p) _ (a .pre .0) (a .pre .1) (x .0) _ _ (c .before .before .before .before .before .before .before .before .next .given .1) (c .before .before .before .before .if1 .taken) (x .1) (x .2)
+    step-arrival _ _ (a .args .p) _ (a .pre .0) (a .pre .1) (x .0) _ _ (c .before .before .before .before .before .before .before .before .next .given .1) (c .before .before .before .before .if1 .taken) (x .1) (x .2)
 
 same-length-2 : tie.Need-same-length-2
 same-length-2 c = search needs

@@ -2,6 +2,7 @@
 use Prim.Native.Nat.{_-_}
 use native.Mathlib.Omega.{arith}
 use lib.ListN.{getD}
+use Rattle.scheduler.specs.Parts.{blockTicks}
 use Rattle.queue.specs.declared.Request.{Request}
 use borrow.Author.Needs.{needs}
 use Rattle.output.proofs.Laws.{unfinished-none, unfinished-head}
@@ -9,7 +10,7 @@ use Rattle.output.proofs.unfinished.Statement.{statement}
 use Rattle.output.proofs.unfinished.Tie as tie
 
 returns : tie.Need-returns
-returns c = λ h. unfinished-none _ _ 32 (c .if1 .taken)
+returns c = λ h. unfinished-none _ _ blockTicks (c .if1 .taken)
 
 element-copy-out-head : tie.Need-element-copy-out-head
 element-copy-out-head c = search needs

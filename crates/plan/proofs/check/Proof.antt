@@ -1,7 +1,7 @@
 -- `plan::check` meets its contract. The invariant: what is left of the text, from the reading and the line so far, gives the plan that
 -- the whole text is.
 use Rattle.plan.specs.Text.{split}
-use Rattle.plan.specs.Plan.{planOf, reads}
+use Rattle.plan.specs.Plan.{maxBytes, planOf, reads}
 use Rattle.plan.proofs.Steps.{too-big, first-line, no-more, unclosed, stops, goes}
 use lib.ListN.{length, drop}
 use Prim.Native.Nat.{_≤_, _-_, _+_}
@@ -12,7 +12,7 @@ use Rattle.plan.proofs.check.Statement.{statement}
 use Rattle.plan.proofs.check.Tie as tie
 
 abbrev Inv-loop : tie.InvT-loop
-Inv-loop plan n st₀ at₀ line₀ st at line = (at ≤ n) × (n ≡ length plan) × (n ≤ 65536) × (line ≤ at + 1) × (planOf plan ≡ reads st line (split 10 (drop at plan)))
+Inv-loop plan n st₀ at₀ line₀ st at line = (at ≤ n) × (n ≡ length plan) × (n ≤ maxBytes) × (line ≤ at + 1) × (planOf plan ≡ reads st line (split 10 (drop at plan)))
 
 abbrev μ-loop : tie.MeasureT-loop
 μ-loop plan n st₀ at₀ line₀ st at line = n - at
@@ -38,7 +38,7 @@ refuse-requires-2 c κs = search needs
 returns-2 : tie.Need-returns-2 Inv-loop μ-loop
 returns-2 c =
     let a = c .before .before .before .before .loop in
-    sym (a .inv .4 ∙ unclosed _ _ _ _ _ (a .inv .1) _ (c .before .before .before .loop-test .taken) (c .before .before .find .ensures .1) (c .before .if2 .taken) _ (c .refuse2 .ensures))
+    sym (a .inv .4 ∙ unclosed _ _ _ _ _ (a .inv .1) _ (c .before .before .before .loop-test .taken) (c .before .before .find .ensures) (c .before .if2 .taken) _ (c .refuse2 .ensures))
 
 sub-parse : tie.Need-sub-parse Inv-loop μ-loop
 sub-parse c = search needs
@@ -64,7 +64,7 @@ refuse-requires-3 c κs = search needs
 returns-3 : tie.Need-returns-3 Inv-loop μ-loop
 returns-3 c =
     let a = c .before .before .before .before .before .before .before .before .before .before .loop in
-    sym (a .inv .4 ∙ stops _ _ _ _ _ (a .inv .1) _ (c .before .before .before .before .before .before .before .before .before .loop-test .taken) (c .before .before .before .before .before .before .before .before .find .ensures .1) (c .before .before .before .before .before .before .before .if2 .left) _ (c .before .before .before .before .before .parse .ensures) _ (c .before .before .before .before .judge .ensures) _ (c .before .before .k .given .1) _ (c .refuse3 .ensures))
+    sym (a .inv .4 ∙ stops _ _ _ _ _ (a .inv .1) _ (c .before .before .before .before .before .before .before .before .before .loop-test .taken) (c .before .before .before .before .before .before .before .before .find .ensures) (c .before .before .before .before .before .before .before .if2 .left) _ (c .before .before .before .before .before .parse .ensures) _ (c .before .before .before .before .judge .ensures) _ (c .before .before .k .given .1) _ (c .refuse3 .ensures))
 
 enum-told : tie.Need-enum-told Inv-loop μ-loop
 enum-told c = search needs
@@ -88,7 +88,7 @@ loop-again c =
       a .inv .1,
       a .inv .2,
       omega arith,
-      a .inv .4 ∙ goes _ _ _ _ _ (a .inv .1) _ (c .before .before .before .before .before .before .before .before .loop-test .taken) (c .before .before .before .before .before .before .before .find .ensures .1) (c .before .before .before .before .before .before .if2 .left) _ (c .before .before .before .before .parse .ensures) _ (c .before .before .before .judge .ensures) (c .before .enum-told .given .1) _ (c .step .ensures),
+      a .inv .4 ∙ goes _ _ _ _ _ (a .inv .1) _ (c .before .before .before .before .before .before .before .before .loop-test .taken) (c .before .before .before .before .before .before .before .find .ensures) (c .before .before .before .before .before .before .if2 .left) _ (c .before .before .before .before .parse .ensures) _ (c .before .before .before .judge .ensures) (c .before .enum-told .given .1) _ (c .step .ensures),
     )
 
 finish-requires : tie.Need-finish-requires Inv-loop μ-loop

@@ -1,5 +1,6 @@
 -- `plan::read_field` meets its contract: the stretch up to the next comma is one number, and what follows it is the rest.
 use Rattle.plan.proofs.Fields.{field-more, field-last, field-wrong}
+use Rattle.plan.specs.Search.{found-le}
 use borrow.Author.Needs.{needs}
 use Rattle.plan.proofs.read_field.Statement.{statement}
 use Rattle.plan.proofs.read_field.Tie as tie
@@ -14,7 +15,7 @@ part-read-number-start : tie.Need-part-read-number-start
 part-read-number-start c = search needs
 
 part-read-number-end : tie.Need-part-read-number-end
-part-read-number-end c = search needs
+part-read-number-end c = found-le _ _ _ _ (c .find .ensures) (search needs)
 
 read-number-requires : tie.Need-read-number-requires
 read-number-requires c κs = search needs
@@ -29,13 +30,13 @@ enum-told : tie.Need-enum-told
 enum-told c = search needs
 
 returns : tie.Need-returns
-returns c = field-more _ _ _ (c .before .before .before .before .before .before .find .ensures .1) _ (c .before .before .before .before .read-number .ensures) _ (c .before .before .v .given .1) (c .if1 .taken)
+returns c = field-more _ _ _ (c .before .before .before .before .before .before .find .ensures) _ (c .before .before .before .before .read-number .ensures) _ (c .before .before .v .given .1) (c .if1 .taken)
 
 returns-2 : tie.Need-returns-2
-returns-2 c = field-last _ _ _ (c .before .before .before .before .before .before .find .ensures .1) _ (c .before .before .before .before .read-number .ensures) _ (c .before .before .v .given .1) (c .if1 .left)
+returns-2 c = field-last _ _ _ (c .before .before .before .before .before .before .find .ensures) _ (c .before .before .before .before .read-number .ensures) _ (c .before .before .v .given .1) (c .if1 .left)
 
 returns-3 : tie.Need-returns-3
-returns-3 c = field-wrong _ _ _ (c .before .before .before .before .find .ensures .1) _ (c .before .before .read-number .ensures) (c .enum-told .given .1)
+returns-3 c = field-wrong _ _ _ (c .before .before .before .before .find .ensures) _ (c .before .before .read-number .ensures) (c .enum-told .given .1)
 
 pub read-field-spec : {M : Type 1} → statement M
 read-field-spec =

@@ -1,5 +1,5 @@
 -- `plan::read_number` meets its contract. The invariant: the digits left, read on from v, give the number that the whole text is.
-use Rattle.plan.specs.Text.{numberOf}
+use Rattle.plan.specs.Text.{maxNumber, readNumber}
 use Rattle.plan.proofs.Laws.{none, too-long, leads, starts, rest, too-large, below-digit, above-digit, digit-on, ends, zero-alone}
 use lib.ListN.{length, drop}
 use Prim.Native.Nat.{_≤_, _-_}
@@ -10,7 +10,7 @@ use Rattle.plan.proofs.read_number.Statement.{statement}
 use Rattle.plan.proofs.read_number.Tie as tie
 
 abbrev Inv-loop : tie.InvT-loop
-Inv-loop s n v₀ i₀ v i = (i ≤ n) × (n ≡ length s) × (v ≤ 4294967295) × (numberOf s ≡ rest v (drop i s))
+Inv-loop s n v₀ i₀ v i = (i ≤ n) × (n ≡ length s) × (v ≤ maxNumber) × (readNumber s ≡ rest v (drop i s))
 
 abbrev μ-loop : tie.MeasureT-loop
 μ-loop s n v₀ i₀ v i = n - i

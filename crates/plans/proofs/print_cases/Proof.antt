@@ -2,12 +2,14 @@
 use lib.ListN.{length}
 use Prim.Native.Nat.{_≤_, _-_}
 use mathlib.Core.Path.{_≡_}
+use Rattle.plan.specs.Search.{found-le}
+use Rattle.output.specs.Rooms.{headRoom}
 use borrow.Author.Needs.{needs}
 use Rattle.plans.proofs.print_cases.Statement.{statement}
 use Rattle.plans.proofs.print_cases.Tie as tie
 
 abbrev Inv-loop : tie.InvT-loop
-Inv-loop all out₀ n at₀ t8 out at = (n ≡ length all) × (at ≤ n) × (length out ≡ length out₀) × (828 ≤ length out₀)
+Inv-loop all out₀ n at₀ t8 out at = (n ≡ length all) × (at ≤ n) × (length out ≡ length out₀) × (headRoom ≤ length out₀)
 
 abbrev μ-loop : tie.MeasureT-loop
 μ-loop all out₀ n at₀ t8 out at = n - at
@@ -46,13 +48,13 @@ part-print-start : tie.Need-part-print-start Inv-loop μ-loop
 part-print-start c = search needs
 
 part-print-end : tie.Need-part-print-end Inv-loop μ-loop
-part-print-end c = search needs
+part-print-end c = found-le _ _ _ _ (c .before .before .before .find2 .ensures) (search needs)
 
 print-requires : tie.Need-print-requires Inv-loop μ-loop
 print-requires c κs = search needs
 
 sub-if2 : tie.Need-sub-if2 Inv-loop μ-loop
-sub-if2 c = search needs
+sub-if2 c = found-le _ _ _ _ (c .before .before .before .before .before .before .before .before .find2 .ensures) (search needs)
 
 same-length-2 : tie.Need-same-length-2 Inv-loop μ-loop
 same-length-2 c = search needs

@@ -4,12 +4,13 @@ use Prim.Native.Nat.{_≤_}
 use native.Mathlib.Omega.{arith}
 use lib.ListN.{length}
 use borrow.Author.Needs.{needs}
+use Rattle.output.specs.Rooms.{headRoom}
 use Rattle.output.specs.Pieces.{stepsLeft}
 use Rattle.schedule.proofs.run.Statement.{statement}
 use Rattle.schedule.proofs.run.Tie as tie
 
 abbrev Inv-loop : tie.InvT-loop
-Inv-loop text ticks out₀ h p₀ out p = (length out ≡ length out₀) × (828 ≤ length out₀)
+Inv-loop text ticks out₀ h p₀ out p = (length out ≡ length out₀) × (headRoom ≤ length out₀)
 
 abbrev μ-loop : tie.MeasureT-loop
 μ-loop text ticks out₀ h p₀ out p = stepsLeft text ticks p

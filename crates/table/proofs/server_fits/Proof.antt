@@ -3,6 +3,7 @@ use Prim.Native.Nat.{_<_}
 use native.Mathlib.Omega.{arith}
 use borrow.Author.Tests.{lt-leb}
 use borrow.Author.Needs.{needs}
+use Rattle.table.specs.Limits.{lastKind}
 use Rattle.table.proofs.server_fits.Statement.{statement}
 use Rattle.table.proofs.server_fits.Tie as tie
 
@@ -32,8 +33,8 @@ returns-4 c = rw (c .before .match .keys4) (c .budget-fits3 .ensures)
 
 returns-5 : tie.Need-returns-5
 returns-5 c =
-    let other : 3 < c .before .args .server .kind = omega (arith, c .match .rest) in
-    rw (lt-leb (c .before .args .server .kind) 3 other)
+    let other : lastKind < c .before .args .server .kind = omega (arith, c .match .rest) in
+    rw (lt-leb (c .before .args .server .kind) lastKind other)
 
 pub server-fits-spec : {M : Type 1} → statement M
 server-fits-spec =

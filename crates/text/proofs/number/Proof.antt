@@ -1,7 +1,7 @@
 -- `text::number` meets its contract. The invariant: what is left to write, written from here, gives the buffer with all digits written.
-use Rattle.text.proofs.Laws.{digits-start, wrote-number}
-use Rattle.text.proofs.Laws.{ten-pos, digit-on}
-use Rattle.text.specs.Decimal.{widthOf, digitsOf}
+use Rattle.text.specs.ReadBack.{ten-pos}
+use Rattle.text.proofs.Laws.{digits-start, digit-on, wrote-number}
+use Rattle.text.specs.Decimal.{maxDigits, widthOf, digitsOf}
 use lib.ListN.{length-set}
 use lib.Seq.{sets}
 use lib.ListN.{length}
@@ -13,7 +13,7 @@ use Rattle.text.proofs.number.Statement.{statement}
 use Rattle.text.proofs.number.Tie as tie
 
 abbrev Inv-loop : tie.InvT-loop
-Inv-loop out₀ at x w i₀ out i = (w ≡ widthOf x) × (1 ≤ w) × (w ≤ 10) × (i ≤ w) × (length out ≡ length out₀) × (sets out₀ at (digitsOf w x) ≡ sets out (at + i) (digitsOf (w - i) x))
+Inv-loop out₀ at x w i₀ out i = (w ≡ widthOf x) × (1 ≤ w) × (w ≤ maxDigits) × (i ≤ w) × (length out ≡ length out₀) × (sets out₀ at (digitsOf w x) ≡ sets out (at + i) (digitsOf (w - i) x))
 
 abbrev μ-loop : tie.MeasureT-loop
 μ-loop out₀ at x w i₀ out i = w - i

@@ -4,16 +4,16 @@ use mathlib.Core.Path.{_≡_, refl, sym, _∙_}
 use native.Mathlib.Omega.{arith}
 use borrow.Author.Needs.{needs}
 use borrow.Author.Tests.{lt-ltb, le-ltb}
-use Rattle.text.specs.Decimal.{widthFrom, widthOf}
+use Rattle.text.specs.Decimal.{maxDigits, widthFrom, widthOf}
 use Rattle.text.proofs.Laws.{width-found, width-on, width-last}
 use Rattle.text.proofs.width.Statement.{statement}
 use Rattle.text.proofs.width.Tie as tie
 
 abbrev Inv-loop : tie.InvT-loop
-Inv-loop x w₀ w = (1 ≤ w) × (w ≤ 10) × (widthOf x ≡ widthFrom (10 - w) w x)
+Inv-loop x w₀ w = (1 ≤ w) × (w ≤ maxDigits) × (widthOf x ≡ widthFrom (maxDigits - w) w x)
 
 abbrev μ-loop : tie.MeasureT-loop
-μ-loop x w₀ w = 10 - w
+μ-loop x w₀ w = maxDigits - w
 
 loop-holds : tie.Need-loop-holds Inv-loop μ-loop
 unfolding widthOf
@@ -42,8 +42,8 @@ loop-again c =
 
 returns-2 : tie.Need-returns-2 Inv-loop μ-loop
 returns-2 c =
-    let e : c .before .loop .w ≡ 10 = omega arith in
-    (sym (rw (e) at (c .before .loop .inv .2) ∙ width-last _ 10), omega arith, omega arith)
+    let e : c .before .loop .w ≡ maxDigits = omega arith in
+    (sym (rw (e) at (c .before .loop .inv .2) ∙ width-last _ maxDigits), omega arith, omega arith)
 
 pub width-spec : {M : Type 1} → statement M
 width-spec =

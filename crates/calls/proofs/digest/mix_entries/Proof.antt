@@ -1,14 +1,15 @@
 -- `mix_entries` is safe and ends: i stays within the array.
 use Prim.Native.Nat.{_≤_, _-_}
 use borrow.Author.Needs.{needs}
+use Rattle.scheduler.specs.Parts.{blockTicks}
 use Rattle.calls.proofs.digest.mix_entries.Statement.{statement}
 use Rattle.calls.proofs.digest.mix_entries.Tie as tie
 
 abbrev Inv-loop : tie.InvT-loop
-Inv-loop entries sum₀ i₀ sum i = i ≤ 32
+Inv-loop entries sum₀ i₀ sum i = i ≤ blockTicks
 
 abbrev μ-loop : tie.MeasureT-loop
-μ-loop entries sum₀ i₀ sum i = 32 - i
+μ-loop entries sum₀ i₀ sum i = blockTicks - i
 
 loop-holds : tie.Need-loop-holds Inv-loop μ-loop
 loop-holds c = search needs

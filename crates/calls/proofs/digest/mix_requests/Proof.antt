@@ -1,14 +1,15 @@
 -- `mix_requests` is safe and ends: i stays within the array.
 use Prim.Native.Nat.{_≤_, _-_}
 use borrow.Author.Needs.{needs}
+use Rattle.queue.specs.Queue.{maxWaiting}
 use Rattle.calls.proofs.digest.mix_requests.Statement.{statement}
 use Rattle.calls.proofs.digest.mix_requests.Tie as tie
 
 abbrev Inv-loop : tie.InvT-loop
-Inv-loop h requests sum₀ i₀ sum i = i ≤ 64
+Inv-loop h requests sum₀ i₀ sum i = i ≤ maxWaiting
 
 abbrev μ-loop : tie.MeasureT-loop
-μ-loop h requests sum₀ i₀ sum i = 64 - i
+μ-loop h requests sum₀ i₀ sum i = maxWaiting - i
 
 loop-holds : tie.Need-loop-holds Inv-loop μ-loop
 loop-holds c = search needs

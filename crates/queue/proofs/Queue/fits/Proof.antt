@@ -10,7 +10,7 @@ use borrow.Author.Needs.{needs}
 use borrow.Author.Tests.{le-leb, lt-leb}
 use Rattle.lists.specs.Lists.{all}
 use Rattle.lists.specs.Loops.{all-step, all-fails, and-false}
-use Rattle.queue.specs.Queue.{requestFits}
+use Rattle.queue.specs.Queue.{maxWaiting, requestFits}
 use Rattle.queue.proofs.Queue.fits.Statement.{statement}
 use Rattle.queue.proofs.Queue.fits.Tie as tie
 
@@ -48,7 +48,7 @@ loop-again : tie.Need-loop-again Inv-loop μ-loop
 loop-again c =
     let a = c .before .before .before .before in
     let s = a .before .before .before in
-    let l : length (s .args .self .requests) ≡ 64 = simp length-map at (s .good .0 .1 .1 .0 .1 .0 .1) in (
+    let l : length (s .args .self .requests) ≡ maxWaiting = simp length-map at (s .good .0 .1 .1 .0 .1 .0 .1) in (
       omega arith,
       rw add-one
           (all-step (requestFits (s .args .clock)) _ (a .loop .i) (s .args .self .requests) (omega arith) (a .loop .inv .1)
@@ -60,17 +60,17 @@ returns-2 c =
     let a = c .before .before .before .before in
     let s = a .before .before .before in
     let q = s .args .self in
-    let l : length (q .requests) ≡ 64 = simp length-map at (s .good .0 .1 .1 .0 .1 .0 .1) in
+    let l : length (q .requests) ≡ maxWaiting = simp length-map at (s .good .0 .1 .1 .0 .1 .0 .1) in
     rw (all-fails (requestFits (s .args .clock)) _ (a .loop .i) (q .n) (q .requests) (omega arith) (omega arith)
     (sym (c .before .fits2 .ensures) ∙ c .if2 .left))
-    (sym (and-false (leb (q .n) 64)))
+    (sym (and-false (leb (q .n) maxWaiting)))
 
 returns-3 : tie.Need-returns-3 Inv-loop μ-loop
 returns-3 c =
     let a = c .before in
     let q = a .before .before .before .args .self in
     let e : a .loop .i ≡ q .n = omega arith in
-    rw (le-leb (q .n) 64 (omega arith)) (sym (rw e at (a .loop .inv .1)))
+    rw (le-leb (q .n) maxWaiting (omega arith)) (sym (rw e at (a .loop .inv .1)))
 
 pub fits-spec : {M : Type 1} → statement M
 fits-spec =

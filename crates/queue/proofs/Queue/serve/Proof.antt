@@ -3,6 +3,7 @@ use mathlib.Core.Path.{_≡_, _∙_}
 use native.Mathlib.Omega.{arith}
 use borrow.Author.Tests.{lt-leb}
 use lib.ListN.{length, length-map}
+use Rattle.queue.specs.Queue.{maxWaiting}
 use Rattle.queue.proofs.Laws.{serve-none, serve-leaves, serve-stays}
 use borrow.Author.Needs.{needs}
 use Rattle.queue.proofs.Queue.serve.Statement.{statement}
@@ -24,7 +25,7 @@ returns-3 : tie.Need-returns-3
 returns-3 c =
     let s = c .before .before .before .before .before in
     let q = s .args .t1 in
-    let l : length (q .requests) ≡ 64 = simp length-map at (s .good .0 .1 .1 .0 .1 .0 .1) in
+    let l : length (q .requests) ≡ maxWaiting = simp length-map at (s .good .0 .1 .1 .0 .1 .0 .1) in
     c .without-head .ensures ∙ serve-leaves _ (q .requests) (q .n) (omega arith) (omega arith) (omega arith) (c .before .if3 .taken)
 
 sub-head : tie.Need-sub-head
@@ -37,7 +38,7 @@ returns-4 : tie.Need-returns-4
 returns-4 c =
     let s = c .before .before .before .before in
     let q = s .args .t1 in
-    let l : length (q .requests) ≡ 64 = simp length-map at (s .good .0 .1 .1 .0 .1 .0 .1) in
+    let l : length (q .requests) ≡ maxWaiting = simp length-map at (s .good .0 .1 .1 .0 .1 .0 .1) in
     serve-stays _ (q .requests) (q .n) (omega arith) (omega arith) (omega arith) (c .if3 .left)
 
 pub serve-spec : {M : Type 1} → statement M

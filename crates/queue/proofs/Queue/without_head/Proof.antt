@@ -5,6 +5,7 @@ use mathlib.Core.Path.{_≡_, refl, ap, _∙_}
 use mathlib.Core.List.{List}
 use lib.ListN.{length, length-map}
 use borrow.Author.Needs.{needs}
+use Rattle.queue.specs.Queue.{maxWaiting}
 use Rattle.queue.specs.declared.Request.{Request}
 use Rattle.queue.specs.declared.Queue.{Queue}
 use Rattle.queue.proofs.Laws.{shifted, shift-step, shifted-all}
@@ -51,7 +52,7 @@ loop-again : tie.Need-loop-again Inv-loop μ-loop
 loop-again c =
     let a = c .before .before in
     let s = a .before .before .before in
-    let l : length (s .args .self .requests) ≡ 64 = simp length-map at (s .good .0 .1 .1 .0 .1 .0 .1) in
+    let l : length (s .args .self .requests) ≡ maxWaiting = simp length-map at (s .good .0 .1 .1 .0 .1 .0 .1) in
     let h : a .loop .i + 1 < length (s .args .self .requests) = omega arith in
     (search needs, rw (a .loop .inv .1) (shift-step (s .args .self .requests) (a .loop .i) _ h))
 
@@ -63,7 +64,7 @@ returns c =
     let a = c .before .before in
     let s = a .before .before .before in
     let q = s .args .self in
-    let l : length (q .requests) ≡ 64 = simp length-map at (s .good .0 .1 .1 .0 .1 .0 .1) in
+    let l : length (q .requests) ≡ maxWaiting = simp length-map at (s .good .0 .1 .1 .0 .1 .0 .1) in
     let e : a .loop .i ≡ q .n - 1 = omega arith in
     ap (λ (x : List Request). record { requests = x; n = q .n - 1 }) (a .loop .inv .1 ∙ ap (λ (k : ℕ). shifted (q .requests) k) e)
     ∙ shifted-all (q .n) (q .requests) (omega arith) (omega arith)

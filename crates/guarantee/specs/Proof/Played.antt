@@ -1,0 +1,145 @@
+-- The ticks of a list of calls, played from the fresh state of a table that says no more tasks are in use than it has slots, are a run
+-- of its task set.
+use Prim.Native.Nat.{ℕ, zero, suc, _-_, _≤_, _<_}
+use native.Mathlib.Omega.{arith}
+use mathlib.Core.Path.{_≡_, refl, ap, ap₂, _∙_}
+use mathlib.Core.List.{List, [], _∷_, _++_}
+use lib.ListN.{length, take, drop, getD, length-append, length-take, replicate}
+use Rattle.lists.specs.Lists.{overlay, zipWith}
+use Rattle.server.specs.Server.{freshServer}
+use Rattle.queue.specs.Queue.{waits}
+use Rattle.queue.specs.Laws.{waiting-with}
+use Rattle.table.specs.declared.Task.{Task}
+use Rattle.table.specs.declared.Table.{Table}
+use Rattle.table.specs.declared.Progress.{Progress}
+use Rattle.table.specs.declared.State.{State}
+use Rattle.table.specs.Limits.{maxTasks}
+use Rattle.table.specs.Model.{TaskSet, Model, taskSetOf, modelOf}
+use Rattle.table.specs.State.{freshState}
+use Rattle.rules.specs.Tick.{opened, kindAt, leftsAt, turnAt, Tick, tick}
+use Rattle.rules.specs.Calls.{ticked, stateAfter}
+use Rattle.rules.specs.Laws.{worked-length}
+use Rattle.guarantee.specs.Calls.{Call, final}
+use Rattle.guarantee.specs.Proof.Items.{Item, server, Cells, fresh, freshAll}
+use Rattle.guarantee.specs.Proof.Tie.{onlyTasks, insert, taskCells, insertCell, nth}
+use Rattle.guarantee.specs.Proof.Places.{cells-same}
+use Rattle.guarantee.specs.Proof.Run.{Run}
+use Rattle.guarantee.specs.Proof.Lift.{startsAll, Behind, linked, linked-first, linked-next}
+
+-- ---- lists
+zip-short : {A B C : Type 0} (f : A → B → C) (xs : List A) (ys : List B) → length xs ≤ length ys → length (zipWith f xs ys) ≡ length xs
+zip-short f [] ys h = refl
+zip-short f (x ∷ xs) [] h = absurd (omega arith)
+zip-short f (x ∷ xs) (y ∷ ys) h = ap suc (zip-short f xs ys (omega arith))
+
+overlay-long : (new old : List ℕ) → length new ≤ length (overlay new old)
+unfolding overlay
+overlay-long new old = omega (arith, length-append new (drop (length new) old))
+
+overlay-front : (n : ℕ) (new old : List ℕ) (i : ℕ) → i < length new → i < n → nth (take n (overlay new old)) i ≡ nth new i
+unfolding overlay
+overlay-front n new old i a b = front n new (drop (length new) old) i a b
+  where
+    front : (n : ℕ) (new rest : List ℕ) (i : ℕ) → i < length new → i < n → nth (take n (new ++ rest)) i ≡ nth new i
+    front zero new rest i a b = absurd (omega arith)
+    front (suc n) [] rest i a b = absurd (omega arith)
+    front (suc n) (l ∷ new) rest zero a b = refl
+    front (suc n) (l ∷ new) rest (suc i) a b = front n new rest i (omega arith) (omega arith)
+
+zeros : (n k i : ℕ) → nth (take n (replicate k 0)) i ≡ 0
+zeros zero k i = refl
+zeros (suc n) zero i = refl
+zeros (suc n) (suc k) zero = refl
+zeros (suc n) (suc k) (suc i) = zeros n k i
+
+-- ---- the fresh cells
+only-fresh : (xs : List Task) → taskCells xs (λ _. 0) ≡ freshAll (onlyTasks xs)
+unfolding freshAll
+only-fresh [] = refl
+only-fresh (x ∷ xs) = ap (λ (r : Cells (onlyTasks xs)). (0, r)) (only-fresh xs)
+
+insert-fresh : (s : ℕ) (xs : List Task) (z : Item) → insertCell s xs z (λ _. 0) (fresh z) ≡ freshAll (insert s xs z)
+unfolding freshAll
+insert-fresh zero xs z = ap (λ (r : Cells (onlyTasks xs)). (fresh z, r)) (only-fresh xs)
+insert-fresh (suc s) [] z = refl
+insert-fresh (suc s) (x ∷ xs) z = ap (λ (r : Cells (insert s xs z)). (0, r)) (insert-fresh s xs z)
+
+module _ (t : Table) (few : t .n ≤ maxTasks) (calls : List Call) where
+  abbrev p : TaskSet
+  p = taskSetOf t
+
+  -- the states at which the ticks begin, and the one after the list
+  abbrev pub begins : List State
+  begins = startsAll (freshState t) calls
+
+  abbrev pub ends : State
+  ends = final (freshState t) calls
+
+  abbrev pub stateAt : ℕ → State
+  stateAt u = getD begins u ends
+
+  abbrev pub modelAt : ℕ → Model
+  modelAt u = modelOf (stateAt u)
+
+  first : Behind (freshState t) (stateAt 0)
+  first = linked-first (freshState t) ends begins (linked calls (freshState t))
+
+  next : (u : ℕ) → u < length begins → Behind (stateAfter (stateAt u)) (stateAt (suc u))
+  next u h = linked-next (freshState t) ends begins (linked calls (freshState t)) u h
+
+  pub table-is : (u : ℕ) → u ≤ length begins → stateAt u .table ≡ t
+  table-is zero h = first .table
+  table-is (suc u) h = next u h .table ∙ table-is u (omega arith)
+
+  pub clock-is : (u : ℕ) → u ≤ length begins → stateAt u .progress .clock ≡ u
+  clock-is zero h = ap (λ (q : Progress). q .clock) (first .progress)
+  clock-is (suc u) h = omega (arith, ap (λ (q : Progress). q .clock) (next u h .progress), clock-is u (omega arith))
+
+  -- the tick of a state is that of the task set at its model
+  pub ticked-is : (u : ℕ) → u ≤ length begins → ticked (stateAt u) ≡ tick p (modelAt u)
+  ticked-is u h = ap (λ (y : Table). tick (taskSetOf y) (modelAt u)) (table-is u h)
+
+  few-tasks : length (p .tasks) ≤ t .n
+  few-tasks = omega (arith, length-take (t .n) (t .tasks))
+
+  long : (u : ℕ) → u ≤ length begins → length (p .tasks) ≤ length (stateAt u .progress .left) → length (p .tasks) ≤ length (modelAt u .lefts)
+  long u h l = omega (arith, l, few-tasks, length-take (stateAt u .table .n) (stateAt u .progress .left), ap (λ (y : Table). y .n) (table-is u h))
+
+  new-long : (u : ℕ) → length (p .tasks) ≤ length (modelAt u .lefts) → length (tick p (modelAt u) .next .lefts) ≡ length (p .tasks)
+  new-long u l =
+      worked-length (turnAt p (modelAt u)) (leftsAt p (modelAt u)) ∙ zip-short (opened (modelAt u .clock)) (p .tasks) (modelAt u .lefts) l
+
+  left-next : (u : ℕ) → u < length begins → stateAt (suc u) .progress .left ≡ overlay (tick p (modelAt u) .next .lefts) (stateAt u .progress .left)
+  left-next u h =
+      ap (λ (q : Progress). q .left) (next u h .progress) ∙ ap (λ (x : Tick). overlay (x .next .lefts) (stateAt u .progress .left)) (ticked-is u (omega arith))
+
+  array-long : (u : ℕ) → u ≤ length begins → length (p .tasks) ≤ length (stateAt u .progress .left)
+  array-long zero h = omega (arith, few, few-tasks, ap (λ (q : Progress). length (q .left)) (first .progress))
+  array-long (suc u) h =
+      omega (
+        arith,
+        ap length (left-next u h),
+        overlay-long (tick p (modelAt u) .next .lefts) (stateAt u .progress .left),
+        new-long u
+            (long u (omega arith) (array-long u (omega arith))),
+      )
+
+  pub played : Run p modelAt (length begins)
+  played = record {
+    clocks = clock-is;
+    covers = λ u h. long u h (array-long u h);
+    first =
+        ap (λ (q : Progress). insertCell (t .server .place) (p .tasks) (server (kindAt p) (t .server)) (nth (take (stateAt 0 .table .n) (q .left))) (q .server))
+        (first .progress)
+        ∙ cells-same (t .server .place) (p .tasks) (server (kindAt p) (t .server)) (nth (take (stateAt 0 .table .n) (replicate maxTasks 0))) (λ _. 0)
+        (freshServer (kindAt p) (t .server)) (λ i _. zeros (stateAt 0 .table .n) maxTasks i)
+        ∙ insert-fresh (t .server .place) (p .tasks) (server (kindAt p) (t .server));
+    servers = λ u h. ap (λ (q : Progress). q .server) (next u h .progress) ∙ ap (λ (x : Tick). x .next .server) (ticked-is u (omega arith));
+    lefts = λ u h i b.
+        ap₂ (λ (n : ℕ) (ls : List ℕ). nth (take n ls) i) (ap (λ (y : Table). y .n) (table-is (suc u) h)) (left-next u h)
+        ∙ overlay-front (t .n) (tick p (modelAt u) .next .lefts) (stateAt u .progress .left) i
+        (omega (arith, new-long u (long u (omega arith) (array-long u (omega arith))))) (omega (arith, few-tasks));
+    stays = λ u h w.
+        next u h .queue (ap waits (waiting-with (stateAt u .queue) (ticked (stateAt u) .next .queue))
+        ∙ ap (λ (x : Tick). waits (x .next .queue)) (ticked-is u (omega arith)) ∙ w);
+  }

@@ -1,0 +1,75 @@
+-- The fields of the guarantee, one by one: the ticks that ran are a run of the table's task set, and what they report is what its
+-- ticks say.
+use Prim.Native.Nat.{ℕ, _+_, _≤_}
+use native.Mathlib.Omega.{arith}
+use mathlib.Core.Path.{_≡_, refl, sym, ap, _∙_}
+use mathlib.Core.List.{List}
+use lib.ListN.{length, take}
+use Rattle.table.specs.declared.Table.{Table}
+use Rattle.table.specs.Limits.{maxTasks}
+use Rattle.table.specs.Model.{TaskSet, Model, taskSetOf}
+use Rattle.admission.specs.Demand.{ownBound}
+use Rattle.admission.specs.Bounds.{OwnBound}
+use Rattle.rules.specs.declared.Occupant.{Occupant}
+use Rattle.rules.specs.declared.Entry.{Entry}
+use Rattle.rules.specs.Tick.{kindAt, Tick, tick}
+use Rattle.rules.specs.Calls.{entryBy, entryOf}
+use Rattle.guarantee.specs.Calls.{Call, clockAfter, byTask, byRequest}
+use Rattle.guarantee.specs.Guarantee.{boundAt, Guarantee}
+use Rattle.guarantee.specs.Proof.Items.{server, itemsDemand}
+use Rattle.guarantee.specs.Proof.Places.{seat, seat-demand}
+use Rattle.guarantee.specs.Proof.Tie.{items}
+use Rattle.guarantee.specs.Proof.Executed.{executed, no-drop}
+use Rattle.guarantee.specs.Proof.Period.{exactly}
+use Rattle.guarantee.specs.Proof.Admitted.{Good}
+use Rattle.guarantee.specs.Proof.Played.{begins, modelAt, played}
+use Rattle.guarantee.specs.Proof.Reports.{ticks-long, clock-after, entry-is, counted, backlog}
+
+entry-drops : (x : Tick) → entryOf x .drops ≡ x .drops
+entry-drops x = go (x .occupant)
+  where
+    go : (o : Occupant) → entryBy o (x .drops) .drops ≡ x .drops
+    go Occupant.Idle = refl
+    go (Occupant.Task i) = refl
+    go (Occupant.Request i) = refl
+
+module _ (t : Table) (g : Good t) (calls : List Call) where
+  abbrev few : t .n ≤ maxTasks
+  few = g .few
+
+  abbrev p : TaskSet
+  p = taskSetOf t
+
+  abbrev m : ℕ → Model
+  m u = modelAt t few calls u
+
+  abbrev N : ℕ
+  N = length (begins t few calls)
+
+  -- the clock after the list is the number of ticks that ran
+  clock : clockAfter t calls ≡ N
+  clock = clock-after t few calls
+
+  pub kept : Guarantee t calls
+  kept = record {
+    numbered = ticks-long t few calls ∙ sym clock;
+    nodrop = λ u h.
+        ap (λ (x : Entry). x .drops) (entry-is t few calls u (omega (arith, clock))) ∙ entry-drops (tick p (m u))
+        ∙ no-drop p m N (played t few calls) (g .sound) (g .mix) (λ i b. (boundAt t i, g .tasks i b)) u (omega (arith, clock));
+    whole = λ i r b e h.
+        omega (
+          arith,
+          counted t few calls (byTask i) r (boundAt t i) (omega (arith, clock)),
+          executed p m N (played t few calls) (g .sound) (g .mix) i b (boundAt t i) (g .tasks i b) r e (omega (arith, clock)),
+        );
+    budget = λ a k e h w.
+        let o : OwnBound p (ownBound p) = g .own k in
+        let d : p .server .budget + itemsDemand (take (seat (p .server .place) (p .tasks)) (items p)) (ownBound p) ≤ ownBound p =
+        omega (arith, o .meets, seat-demand (t .server .place) (p .tasks) (server (kindAt p) (t .server)) (ownBound p)) in
+        omega (
+          arith,
+          counted t few calls byRequest a (t .server .period) (omega (arith, clock)),
+          exactly p m N (played t few calls) k (g .sound) (g .plain k) (ownBound p) (o .some) (o .soon) d a e (omega (arith, clock))
+              (backlog t few calls a (omega (arith, clock)) w),
+        );
+  }

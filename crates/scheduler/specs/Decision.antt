@@ -1,0 +1,65 @@
+-- What a tick decides, and its record in a run.
+use Prim.Native.Nat.{ℕ, _≤_}
+use mathlib.Core.Path.{_≡_}
+use mathlib.Core.Bool.{Bool, true, _&&_}
+use Rattle.queue.specs.declared.Queue.{Queue}
+use Rattle.queue.specs.Queue.{waitingOf}
+use Rattle.table.specs.declared.Table.{Table}
+use Rattle.table.specs.declared.Progress.{Progress}
+use Rattle.table.specs.declared.State.{State}
+use Rattle.table.specs.Model.{taskSetOf, modelOf}
+use Rattle.rules.specs.declared.Turn.{Turn}
+use Rattle.rules.specs.declared.Occupant.{Occupant}
+use Rattle.rules.specs.Tick.{turnAt}
+use Rattle.rules.specs.Calls.{ticked, stateAfter, entryOf}
+use Rattle.scheduler.specs.declared.work.Head.{Head}
+use Rattle.scheduler.specs.declared.decision.Decision.{Decision}
+use Rattle.scheduler.specs.declared.running.Recorded.{Recorded}
+use Rattle.scheduler.specs.Parts.{stateOf, mayRun}
+use Rattle.scheduler.specs.Opening.{CalmFor, calmAfter}
+use Rattle.scheduler.specs.Work.{ends, headOf, toRequest}
+use Rattle.scheduler.specs.Service.{headWork, shown, givenAfter}
+
+-- how long the calm is known to last after the tick of a state
+abbrev pub calmOf : State → ℕ → ℕ
+calmOf s c = calmAfter (s .progress .clock) (s .table .tasks) (s .table .n) c
+
+-- what a tick decides: all but the queue
+abbrev pub decidedBy : State → ℕ → Decision
+decidedBy s c = record {
+  progress = stateAfter s .progress;
+  turn = turnAt (taskSetOf (s .table)) (modelOf s);
+  drops = ticked s .drops;
+  calm = calmOf s c;
+}
+
+-- the decision d is the tick's, whatever the queue is whose head was read
+abbrev pub Decides : Table → Progress → Head → ℕ → Decision → Type 0
+Decides t p h c d = (q : Queue) → h ≡ headOf (waitingOf q) → mayRun 1 (stateOf t p q) ≡ true → d ≡ decidedBy (stateOf t p q) c
+
+-- who has the tick, by the id of the queue's head
+abbrev pub occupantFor : Turn → ℕ → Occupant
+occupantFor Turn.Nobody id = Occupant.Idle
+occupantFor (Turn.Task i) id = Occupant.Task i
+occupantFor Turn.Budget id = Occupant.Request id
+occupantFor Turn.Spare id = Occupant.Request id
+
+-- ---- a tick of a run
+-- what a tick of a run asks: the state may run it, the ticks before c are calm, and the service that is counted passes neither
+-- the clock nor the head's work
+abbrev pub MayRecord : Table → Progress → Queue → ℕ → ℕ → Type 0
+MayRecord t p q c g = (mayRun 1 (stateOf t p (shown g q)) ≡ true) × CalmFor t p c × (g ≤ p .clock) × (g ≤ headWork q)
+
+-- the tick of a state goes to a request
+abbrev pub servesAt : State → Bool
+servesAt s = toRequest (turnAt (taskSetOf (s .table)) (modelOf s))
+
+-- what a tick of a run gives, where the head has had g ticks of service that the queue does not show
+abbrev pub recordedBy : State → ℕ → ℕ → Recorded
+recordedBy s c g = record {
+  progress = stateAfter s .progress;
+  entry = entryOf (ticked s);
+  calm = calmOf s c;
+  given = givenAfter (servesAt s) (ends (waitingOf (s .queue))) g;
+  leaves = servesAt s && ends (waitingOf (s .queue));
+}

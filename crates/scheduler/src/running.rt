@@ -1,0 +1,104 @@
+// The ticks of a run: which run is allowed, a tick with its record, and the state that the run comes to.
+ghost use Prim.Native.Nat.{_≤_};
+ghost use mathlib.Core.Path.{_≡_};
+ghost use Rattle.rules.specs.Laws.{Sized};
+ghost use Rattle.scheduler.specs.Parts.{stateOf, allowance};
+ghost use Rattle.scheduler.specs.Service.{headWork, shown};
+ghost use Rattle.scheduler.specs.Decision.{MayRecord, recordedBy};
+use crate::decision::decide;
+use crate::service::count_given;
+use crate::service::show_given;
+use crate::ticking::occupant_of;
+use crate::work::head_of;
+use crate::work::to_request;
+use queue::Queue;
+use rules::Entry;
+use table::Checked;
+use table::Progress;
+use table::Refusal;
+use table::State;
+use table::Table;
+
+// Which run is allowed, and how many ticks it then runs: none if it is refused.
+pub struct Allowed {
+    pub answer: Checked,
+    pub ticks: usize,
+}
+
+// Refusals 11, 6 and 10, in this order, of a run of k ticks with so many entries lent.
+pub fn check_run(state: State, k: u32, lent: usize) -> Allowed
+    ensures { λ r. ⌜ (r ≡ allowance state k lent) × Sized state ⌝ }
+{
+    if !state.fit() {
+        return Allowed {
+            answer: Checked::Refused(Refusal::UnfitState),
+            ticks: 0,
+        };
+    }
+    let progress = state.progress;
+    let end = (progress.clock as u64) + (k as u64);
+    if (Table::LAST_CLOCK as u64) < end {
+        return Allowed {
+            answer: Checked::Refused(Refusal::ClockSpent),
+            ticks: 0,
+        };
+    }
+    let ticks = k as usize;
+    if lent < ticks {
+        return Allowed {
+            answer: Checked::Refused(Refusal::ShortRecord),
+            ticks: 0,
+        };
+    }
+    Allowed {
+        answer: Checked::Passed,
+        ticks,
+    }
+}
+
+// What a tick of a run gives: its record, what the head has had that the queue does not show, and whether the head leaves.
+pub struct Recorded {
+    pub progress: Progress,
+    pub entry: Entry,
+    pub calm: u32,
+    pub given: u32,
+    pub leaves: bool,
+}
+
+// A tick of a run. It writes no queue: where the head leaves, `service::leave` does; till then its service is counted.
+pub fn record_tick(
+    table: Table,
+    progress: Progress,
+    queue: Queue,
+    calm: u32,
+    given: u32,
+) -> Recorded
+    requires { ⌜ MayRecord table progress queue calm given ⌝ }
+    ensures { λ r. ⌜ r ≡ recordedBy (stateOf table progress (shown given queue)) calm given ⌝ }
+{
+    let head = head_of(queue, given);
+    let d = decide(table, progress, head, calm);
+    let turn = d.turn;
+    let next = d.progress;
+    let serves = to_request(turn);
+    let occupant = occupant_of(turn, head.id);
+    Recorded {
+        progress: next,
+        entry: occupant.entry(d.drops),
+        calm: d.calm,
+        given: count_given(serves, head.ends, given),
+        leaves: serves & head.ends,
+    }
+}
+
+// The state that a run comes to.
+pub fn settle(table: Table, progress: Progress, queue: Queue, given: u32) -> State
+    requires { ⌜ given ≤ headWork queue ⌝ }
+    ensures { λ r. ⌜ r ≡ stateOf table progress (shown given queue) ⌝ }
+{
+    State {
+        table,
+        progress,
+        queue: show_given(queue, given),
+    }
+}

@@ -1,0 +1,122 @@
+// Step 5 of a tick: the occupant's tick of work, and what the server is shown of it. Of the queue a tick reads its head alone.
+ghost use Prim.Native.Nat.{_≤_};
+ghost use mathlib.Core.Path.{_≡_};
+ghost use Rattle.queue.specs.Queue.{maxWaiting, waitingOf};
+ghost use Rattle.rules.specs.Tick.{workedTasks};
+ghost use Rattle.scheduler.specs.Work.{headOf, toRequest, seenOf};
+ghost use Rattle.scheduler.specs.Service.{headWork, shown};
+use queue::Queue;
+use rules::Turn;
+use server::Seen;
+use table::Table;
+
+// All that a tick reads of a queue: whether a request waits, whether a served tick is the head's last, whether none waits after it,
+// the head's id.
+pub struct Head {
+    pub waits: bool,
+    pub ends: bool,
+    pub last: bool,
+    pub id: u32,
+}
+
+// The head has had `given` ticks of service since the queue was written.
+pub fn head_of(queue: Queue, given: u32) -> Head
+    requires { ⌜ (queue .n ≤ maxWaiting) × (given ≤ headWork queue) ⌝ }
+    ensures { λ r. ⌜ r ≡ headOf (waitingOf (shown given queue)) ⌝ }
+{
+    let n = queue.n;
+    if n == 0 {
+        return Head {
+            waits: false,
+            ends: true,
+            last: true,
+            id: 0,
+        };
+    }
+    let head = queue.requests[0];
+    let ends = head.work - given <= 1;
+    Head {
+        waits: true,
+        ends,
+        last: ends & (n <= 1),
+        id: head.id,
+    }
+}
+
+// The tick goes to a request.
+pub fn to_request(turn: Turn) -> bool
+    ensures { λ r. ⌜ r ≡ toRequest turn ⌝ }
+{
+    match turn {
+        Turn::Nobody => false,
+        Turn::Task(_) => false,
+        Turn::Budget => true,
+        Turn::Spare => true,
+    }
+}
+
+// What is left of the tasks after a task's tick of work.
+pub fn work_tasks(
+    mut left: [u32; Table::MAX_TASKS as usize],
+    turn: Turn,
+) -> [u32; Table::MAX_TASKS as usize]
+    ensures { λ r. ⌜ r ≡ workedTasks turn left ⌝ }
+{
+    match turn {
+        Turn::Nobody => left,
+        Turn::Task(i) => {
+            if Table::MAX_TASKS <= i {
+                return left;
+            }
+            let at = i as usize;
+            let was = left[at];
+            if was == 0 {
+                return left;
+            }
+            left[at] = was - 1;
+            left
+        }
+        Turn::Budget => left,
+        Turn::Spare => left,
+    }
+}
+
+// What step 5 shows the server.
+pub fn show(t: u32, head: Head, turn: Turn, above: bool, busy: bool) -> Seen
+    ensures { λ r. ⌜ r ≡ seenOf t head turn above busy ⌝ }
+{
+    match turn {
+        Turn::Nobody => Seen {
+            t,
+            above,
+            busy,
+            serves: false,
+            waited: head.waits,
+            emptied: !head.waits,
+        },
+        Turn::Task(_) => Seen {
+            t,
+            above,
+            busy,
+            serves: false,
+            waited: head.waits,
+            emptied: !head.waits,
+        },
+        Turn::Budget => Seen {
+            t,
+            above,
+            busy,
+            serves: true,
+            waited: head.waits,
+            emptied: head.last,
+        },
+        Turn::Spare => Seen {
+            t,
+            above,
+            busy,
+            serves: false,
+            waited: head.waits,
+            emptied: head.last,
+        },
+    }
+}

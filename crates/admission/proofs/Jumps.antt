@@ -20,11 +20,11 @@ use Rattle.table.specs.declared.Task.{Task}
 use Rattle.table.specs.Facts.{TaskLimits, ServerLimits, noTask}
 use Rattle.table.specs.Model.{TaskSet, taskSetOf}
 use Rattle.admission.specs.declared.Work.{Work}
-use Rattle.admission.specs.Least.{least}
-use Rattle.admission.specs.Demand.{tasksDemand}
-use Rattle.admission.specs.Terms.{demandOf}
+use Rattle.bounds.specs.Least.{least}
+use Rattle.bounds.specs.Demand.{tasksDemand}
+use Rattle.bounds.specs.Terms.{demandOf}
 use Rattle.admission.specs.Jumps.{whole, Sure, TaskParts, ServerPart, ServerLead, Counted, DemandAt, OpenFrom, FirstMet}
-use Rattle.admission.specs.Laws.{least-is, least-none, term-mono, server-mono}
+use Rattle.bounds.specs.Laws.{least-is, least-none, term-mono, server-mono}
 use Rattle.admission.proofs.Laws.{tasks-step, demand-with, demand-without}
 use Rattle.admission.proofs.Load.{ceil-reaches, ceil-some, part-le, share-le, load-le}
 

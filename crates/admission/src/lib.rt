@@ -15,23 +15,15 @@ ghost use Rattle.table.specs.Limits.{maxTasks};
 ghost use Rattle.table.specs.Model.{taskSetOf};
 ghost use Rattle.table.specs.Refusal.{passed};
 ghost use Rattle.table.specs.State.{tableCheck};
-ghost use Rattle.admission.specs.Demand.{bounds, ownBound, serverBound, serverAdmitted};
-ghost use Rattle.admission.specs.Terms.{demandOf, Asked};
-ghost use Rattle.admission.specs.Jumps.{whole, maxTurns, TaskParts, ServerPart, ServerLead, PartsOf, Room, Counted, TasksAsked, TasksDemand, DemandAt, FirstOpen, NextOpen, OpenFrom, FirstMet};
-ghost use Rattle.admission.specs.Admission.{admissionBy, admissionCall};
+ghost use Rattle.bounds.specs.Demand.{bounds, ownBound, serverBound, serverAdmitted};
+ghost use Rattle.bounds.specs.Terms.{demandOf};
+ghost use Rattle.admission.specs.Jumps.{Asked, whole, maxTurns, TaskParts, ServerPart, ServerLead, PartsOf, Room, Counted, TasksAsked, TasksDemand, DemandAt, FirstOpen, NextOpen, OpenFrom, FirstMet};
+ghost use Rattle.bounds.specs.Admission.{admissionBy, admissionCall};
+use bounds::Admission;
 use server::Server;
 use table::Checked;
 use table::Table;
 use table::Task;
-
-// The answer of admission. bounds and serverbound are 0 where there is no bound; slots past the tasks in use are 0, and
-// of a refused table so is everything.
-pub struct Admission {
-    pub answer: Checked,
-    pub bounds: [u32; Table::MAX_TASKS as usize],
-    pub serverbound: u32,
-    pub admitted: bool,
-}
 
 // A length past every limit.
 const PAST: u32 = Table::MAX_TIME + 1;

@@ -2,7 +2,7 @@
 use crate::digest::digest;
 use crate::digest::mix_all;
 use crate::digest::mix_entries;
-use admission::Admission;
+use bounds::Admission;
 use libc::STDOUT_FILENO;
 use lists::bit;
 use queue::Finish;

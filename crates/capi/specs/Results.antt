@@ -5,7 +5,7 @@ use Rattle.queue.specs.declared.Finish.{Finish}
 use Rattle.table.specs.declared.State.{State}
 use Rattle.table.specs.declared.SetUp.{SetUp}
 use Rattle.table.specs.Refusal.{number, numberOf, valueOf}
-use Rattle.admission.specs.declared.Admission.{Admission}
+use Rattle.bounds.specs.declared.Admission.{Admission}
 use Rattle.rules.specs.declared.Entry.{Entry}
 use Rattle.rules.specs.declared.Moved.{Moved}
 use Rattle.rules.specs.declared.TickAnswer.{TickAnswer}

@@ -4,7 +4,7 @@ ghost use mathlib.Core.Path.{_≡_};
 ghost use lib.ListN.{length};
 ghost use Rattle.table.specs.Refusal.{value, numberOf, valueOf};
 ghost use Rattle.table.specs.State.{setUpCall};
-ghost use Rattle.admission.specs.Admission.{admissionCall};
+ghost use Rattle.bounds.specs.Admission.{admissionCall};
 ghost use Rattle.rules.specs.Calls.{requestCall, tickCall, runCall, runList};
 ghost use Rattle.capi.specs.Results.{setUpResult, admissionResult, movedResult, doneBy, ranResult, tickResultBy, tickResult};
 use queue::Finish;

@@ -1,5 +1,5 @@
 -- The guarantee's hypothesis can be met under each kind of server by a table whose requests load it, and a table that is not admitted
--- can drop. Calls as numbers. All by computation.
+-- can drop. All by computation.
 use Prim.Native.Nat.{ℕ, zero, suc}
 use mathlib.Core.Path.{_≡_, refl}
 use mathlib.Core.Bool.{Bool, true, false, _&&_}
@@ -9,14 +9,12 @@ use lib.ListN.{length, replicate}
 use Rattle.lists.specs.Lists.{overlay, all}
 use Rattle.lists.specs.Stretch.{stretch, howMany}
 use Rattle.table.specs.declared.Table.{Table}
-use Rattle.admission.specs.Admission.{admissionCall}
+use Rattle.bounds.specs.Admission.{admissionCall}
 use Rattle.rules.specs.declared.Entry.{Entry}
 use Rattle.rules.specs.Play.{task, server, table}
-use Rattle.scheduler.specs.Parts.{idleEntries}
 use Rattle.guarantee.specs.Calls.{Call, request, tick, run, RanTick, ticks, clockAfter, hasTask, hasRequest}
 use Rattle.guarantee.specs.Guarantee.{boundAt, Guarantee}
 use Rattle.guarantee.specs.Kept.{guarantee}
-use Rattle.guarantee.specs.Numbers.{callsOf}
 
 -- one row 3, 6, 2, D
 abbrev one : ℕ → ℕ → ℕ → ℕ → ℕ → Table
@@ -84,7 +82,3 @@ no-bound = refl
 drops : map (λ (x : RanTick). x .entry .drops) (ticks tight late) ≡ 0 ∷ 0 ∷ 0 ∷ 0 ∷ 0 ∷ 0 ∷ 0 ∷ 0 ∷ 1 ∷ []
 unfolding overlay
 drops = refl
-
--- ---- calls as numbers: a request with id 7 and work 4, a tick, a run of 9 ticks, and a number that says nothing
-as-numbers : callsOf (0 ∷ 7 ∷ 4 ∷ 1 ∷ 0 ∷ 0 ∷ 2 ∷ 9 ∷ 0 ∷ 5 ∷ []) ≡ request 7 4 ∷ tick ∷ run 9 idleEntries ∷ []
-as-numbers = refl

@@ -10,7 +10,7 @@ use Rattle.server.specs.Kind.{Kind, background, polling, deferrable, sporadic, 
 use Rattle.table.specs.declared.Task.{Task}
 use Rattle.table.specs.declared.Table.{Table}
 use Rattle.table.specs.Model.{taskSetOf, noTask}
-use Rattle.admission.specs.Admission.{admissionCall}
+use Rattle.bounds.specs.Admission.{admissionCall}
 use Rattle.guarantee.specs.Calls.{Call, ticks, tickAt, clockAfter, hasTask, hasRequest}
 
 -- ---- a table's rows, their bounds, and its kind of service

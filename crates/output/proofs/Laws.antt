@@ -1,69 +1,20 @@
--- Laws of the pieces: a line written with room, and numbered lines one by one.
-use Prim.Native.Nat.{ℕ, zero, suc, _+_, _-_, _≤_, _<_}
+-- Laws of the parts: the lesser of two numbers, places, how many ticks may be run at once, and an entry's X line.
+use Prim.Native.Nat.{ℕ, zero, suc, _≤_, _<_}
 use mathlib.Core.Path.{_≡_, refl, sym, ap, _∙_, subst}
-use mathlib.Core.Bool.{Bool, true, false, cond}
-use mathlib.Core.List.{List, [], _∷_, _++_, append-nil, append-assoc}
+use mathlib.Core.List.{List, [], _∷_}
 use native.Mathlib.Omega.{arith}
-use native.Mathlib.Numerals.{add-one}
-use lib.ListN.{length, getD, take}
-use lib.Seq.{take-all}
-use lib.Dec.{ltb}
-use borrow.Author.Tests.{ltb-true, ne-eqb}
-use Rattle.table.specs.Limits.{maxTasks}
+use lib.ListN.{getD, take}
+use borrow.Author.Tests.{ne-eqb}
 use Rattle.lists.specs.Numbers.{lesserOf, lesser-left, lesser-right}
 use Rattle.table.specs.declared.State.{State}
 use Rattle.plan.specs.declared.Next.{Next}
 use Rattle.text.specs.declared.Line.{Line}
-use Rattle.text.specs.Buffer.{Wrote, ifRoom, wrote-same, has-room, then, nothing-written}
-use Rattle.text.specs.Lines.{lineRoom, lineBytes}
 use Rattle.lines.specs.Lines.{tickLine}
 use Rattle.queue.specs.declared.Request.{Request}
 use Rattle.rules.specs.declared.Entry.{Entry}
-use Rattle.plan.specs.declared.Arrival.{Arrival}
+use Rattle.fields.specs.declared.Arrival.{Arrival}
 use Rattle.output.specs.Blocks.{letter, entryLine, Unfinished, Undisturbed}
 use Rattle.output.specs.declared.Place.{Place}
-use Rattle.output.specs.Output.{numbered}
-
-pub line-in : {l m : List ℕ} {at r : ℕ} (x y : Line) → at + lineRoom ≤ length l → Wrote l at (ifRoom lineRoom l at (lineBytes x)) m r → x ≡ y → Wrote l at (lineBytes y) m r
-line-in {l} {m} {at} x y h w e = wrote-same (has-room lineRoom l at (lineBytes x) h ∙ ap lineBytes e) w
-
-pub line-or : {l m : List ℕ} {at r : ℕ} (x y : Line) → Wrote l at (ifRoom lineRoom l at (lineBytes x)) m r → x ≡ y → Wrote l at (ifRoom lineRoom l at (lineBytes y)) m r
-line-or {l} {m} {at} x y w e = wrote-same (ap (λ (z : Line). ifRoom lineRoom l at (lineBytes z)) e) w
-
--- one line more
-numbered-on :
-    {A : Type 0} (line : ℕ → A → Line) (i : ℕ) (xs : List A) (j : ℕ) (d : A) → i < length xs →
-    numbered line j (take i xs) ++ lineBytes (line (j + i) (getD xs i d)) ≡ numbered line j (take (suc i) xs)
-unfolding numbered
-numbered-on line i [] j d h = absurd (omega arith)
-numbered-on line zero (x ∷ xs) j d h =
-    let e : j + 0 ≡ j = omega arith in
-    rw e (sym (append-nil (lineBytes (line j x))))
-numbered-on line (suc i) (x ∷ xs) j d h =
-    let e : j + suc i ≡ suc j + i = omega arith in
-    let k : i < length xs = omega arith in
-    append-assoc (lineBytes (line j x)) (numbered line (suc j) (take i xs)) (lineBytes (line (j + suc i) (getD xs i d)))
-    ∙ ap (λ (l : List ℕ). lineBytes (line j x) ++ l)
-    (ap (λ (n : ℕ). numbered line (suc j) (take i xs) ++ lineBytes (line n (getD xs i d))) e ∙ numbered-on line i xs (suc j) d k)
-
-pub numbered-next :
-    {A : Type 0} (line : ℕ → A → Line) (xs : List A) (d : A) (j i : ℕ) {l m n : List ℕ} {from at r : ℕ} (x : Line) → i < length xs → x ≡ line (j + i) (getD xs i d) → at + lineRoom ≤ length m →
-    Wrote l from (numbered line j (take i xs)) m at → Wrote m at (ifRoom lineRoom m at (lineBytes x)) n r → Wrote l from (numbered line j (take (i + 1) xs)) n r
-numbered-next line xs d j i x h e k v w =
-    wrote-same (numbered-on line i xs j d h ∙ ap (λ (y : ℕ). numbered line j (take y xs)) (sym (add-one i)))
-    (then v (line-in x (line (j + i) (getD xs i d)) k w e))
-
-pub numbered-none : {A : Type 0} (line : ℕ → A → Line) (xs : List A) (j : ℕ) (l : List ℕ) (at : ℕ) → Wrote l at (numbered line j (take 0 xs)) l at
-unfolding numbered
-numbered-none line xs j l at = nothing-written l at
-
--- as many as a table holds
-pub in-use : (n : ℕ) (bs : List ℕ) → length bs ≡ maxTasks → take (lesserOf n maxTasks) bs ≡ take n bs
-in-use n bs len = by (ltb maxTasks n) refl
-  where
-    by : (b : Bool) → ltb maxTasks n ≡ b → take (cond b maxTasks n) bs ≡ take n bs
-    by true e = take-all maxTasks bs (omega arith) ∙ sym (take-all n bs (omega (arith, ltb-true maxTasks n e)))
-    by false e = refl
 
 -- the lesser of two numbers is neither's greater
 pub lesser-both : (a b : ℕ) {r : ℕ} → r ≡ lesserOf a b → (r ≤ a) × (r ≤ b)

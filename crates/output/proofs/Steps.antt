@@ -1,16 +1,19 @@
 -- One step from a place, and a buffer that is filled step by step.
 use Prim.Native.Nat.{ℕ, zero, suc, _+_, _-_, _≤_, _<_}
 use mathlib.Core.Path.{_≡_, refl, sym, ap, _∙_, subst}
+use mathlib.Core.Bool.{Bool, true, false, _&&_, false≢true}
 use mathlib.Core.List.{List, [], _∷_, _++_, append-assoc}
 use mathlib.Core.Logic.{_⊎_, inl, inr, ⊎-elim}
 use native.Mathlib.Omega.{arith}
 use lib.ListN.{length, take, drop}
 use lib.Seq.{drop-drop}
+use lib.Dec.{ltb, leb}
+use borrow.Author.Tests.{ltb-true, ltb-false, leb-true, leb-false}
 use Rattle.output.specs.Rooms.{blockRoom, stepRoom}
 use Rattle.table.specs.declared.State.{State}
 use Rattle.table.specs.declared.Table.{Table}
 use Rattle.text.specs.Buffer.{Wrote, front, behind, wrote-length}
-use Rattle.plan.specs.declared.Arrival.{Arrival}
+use Rattle.fields.specs.declared.Arrival.{Arrival}
 use Rattle.plan.specs.declared.Next.{Next}
 use Rattle.plan.specs.Plan.{arrivalsFrom, nextFrom, unrolled}
 use Rattle.plan.specs.Arrivals.{Walked, walked}
@@ -135,23 +138,28 @@ module _ (bytes : List ℕ) (ticks : ℕ) (l : List ℕ) (p : Place) where
           ∙ ap (λ (n : ℕ). drop n l) back
 
   -- it stops where no tick is left, or where the next step might not fit
-  module _ (m : List ℕ) (at : ℕ) (q : Place) (f : Filling bytes ticks l p m at q) (fits : at ≤ length l) where
-    pub filling-over : ticks ≤ q .tick → Filled bytes ticks l p m at q
-    filling-over h = record {
-      text = f .text;
-      behind = f .behind;
-      fits = fits;
-      same = f .same;
-      stops = inl h;
-      fewer = λ e k. ⊎-elim (λ o. absurd (omega (arith, ap (λ (x : Place). x .tick) (o .1)))) (λ g. g) (f .moved);
-    }
+  pub filling-stops :
+      (m : List ℕ) (at : ℕ) (q : Place) → Filling bytes ticks l p m at q → at ≤ length l → (ticks ≤ q .tick) ⊎ (length l < at + stepRoom) → Filled bytes ticks l p m at q
+  filling-stops m at q f fits h = record {
+    text = f .text;
+    behind = f .behind;
+    fits = fits;
+    same = f .same;
+    stops = h;
+    fewer = λ e k. ⊎-elim (λ o. absurd (⊎-elim (λ g. omega (arith, ap (λ (x : Place). x .tick) (o .1))) (λ g. omega (arith, o .0)) h)) (λ g. g) (f .moved);
+  }
 
-    pub filling-full : length l < at + stepRoom → Filled bytes ticks l p m at q
-    filling-full h = record {
-      text = f .text;
-      behind = f .behind;
-      fits = fits;
-      same = f .same;
-      stops = inr h;
-      fewer = λ e k. ⊎-elim (λ o. absurd (omega (arith, o .0))) (λ g. g) (f .moved);
-    }
+-- two tests: both hold, or one does not
+pub tests-hold : (a b c d : ℕ) → (ltb a b && leb c d) ≡ true → (a < b) × (c ≤ d)
+tests-hold a b c d e = by (ltb a b) refl e
+  where
+    by : (x : Bool) → ltb a b ≡ x → (x && leb c d) ≡ true → (a < b) × (c ≤ d)
+    by true f g = (ltb-true a b f, leb-true c d g)
+    by false f g = absurd (false≢true g)
+
+pub test-fails : (a b c d : ℕ) → (ltb a b && leb c d) ≡ false → (b ≤ a) ⊎ (d < c)
+test-fails a b c d e = by (ltb a b) refl e
+  where
+    by : (x : Bool) → ltb a b ≡ x → (x && leb c d) ≡ false → (b ≤ a) ⊎ (d < c)
+    by true f g = inr (leb-false c d g)
+    by false f g = inl (ltb-false a b f)

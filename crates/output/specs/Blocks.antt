@@ -4,16 +4,16 @@ use Prim.Native.Nat.{ℕ, zero, suc, _+_, _-_, _*_, _≤_, _<_}
 use native.Mathlib.Omega.{arith}
 use native.Mathlib.Numerals.{add-one}
 use mathlib.Core.Path.{_≡_, refl, sym, ap, subst, _∙_}
-use mathlib.Core.Bool.{Bool, true, false, cond}
+use mathlib.Core.Bool.{true, cond}
 use mathlib.Core.List.{List, [], _∷_, _++_, append-nil, append-assoc}
 use lib.ListN.{length, take}
-use lib.Dec.{eqb, leb}
+use lib.Dec.{eqb}
 use borrow.Author.Tests.{lt-leb}
 use Rattle.output.specs.Rooms.{blockRoom, stepRoom}
 use Rattle.lists.specs.Lists.{take-overlay}
 use Rattle.queue.specs.declared.Request.{Request}
 use Rattle.queue.specs.declared.Finish.{Finish}
-use Rattle.queue.specs.Queue.{waitingOf, served, finished}
+use Rattle.queue.specs.Queue.{waitingOf, served}
 use Rattle.table.specs.declared.State.{State}
 use Rattle.table.specs.declared.Checked.{Checked}
 use Rattle.table.specs.Refusal.{passed}
@@ -22,8 +22,8 @@ use Rattle.rules.specs.declared.Entry.{Entry}
 use Rattle.rules.specs.declared.Occupant.{Occupant}
 use Rattle.rules.specs.declared.Turn.{Turn}
 use Rattle.rules.specs.declared.Ticked.{Ticked}
-use Rattle.rules.specs.Tick.{Tick, workedQueue, finishOf, turnAt}
-use Rattle.rules.specs.Calls.{entryBy, entryOf, ticked, stateAfter, tickBy, tickCall, ticksCheck, ranBy, runState, runEntries, runCheck, runCall, runList}
+use Rattle.rules.specs.Tick.{workedQueue, finishOf, turnAt}
+use Rattle.rules.specs.Calls.{entryBy, entryOf, ticked, stateAfter, tickCall, ranBy, runState, runEntries, runCheck, runCall, runList}
 use Rattle.rules.specs.Laws.{Sized}
 use Rattle.scheduler.specs.declared.Recording.{Recording}
 use Rattle.scheduler.specs.Parts.{blockTicks, mayRun, allowance, idleEntries, blockCall}
@@ -32,11 +32,12 @@ use Rattle.text.specs.declared.Line.{Line}
 use Rattle.text.specs.Lines.{lineRoom, lineBytes}
 use Rattle.lines.specs.Lines.{tickLine}
 use Rattle.text.specs.Buffer.{Wrote, wrote-same}
-use Rattle.plan.specs.declared.Arrival.{Arrival}
+use Rattle.fields.specs.declared.Arrival.{Arrival}
 use Rattle.plan.specs.declared.Next.{Next}
 use Rattle.plan.specs.Plan.{unrolled}
 use Rattle.output.specs.declared.Place.{Place}
-use Rattle.output.specs.Output.{occupantLine, tickText, ticksText, numbered}
+use Rattle.heading.specs.Heading.{numbered}
+use Rattle.output.specs.Output.{occupantLine, tickText, ticksText}
 use Rattle.output.specs.Pieces.{NoneDue, tick-first, textFrom}
 
 -- "X: tick, I idle or T row or A request, row or id, drops", from "occupant kind (0 idle, 1 row, 2 request), its row or id .. and the drops"

@@ -1,47 +1,27 @@
 -- What `schedule` prints: bytes from the bytes of a plan, by the library's calls.
-use Prim.Native.Nat.{ℕ, zero, suc, _-_}
-use mathlib.Core.Bool.{Bool, true, false, cond}
+use Prim.Native.Nat.{ℕ, zero, suc}
+use mathlib.Core.Bool.{cond}
 use mathlib.Core.List.{List, [], _∷_, _++_}
-use lib.ListN.{take}
 use lib.Dec.{eqb}
 use Rattle.queue.specs.declared.Finish.{Finish}
 use Rattle.table.specs.declared.State.{State}
-use Rattle.table.specs.declared.Table.{Table}
 use Rattle.table.specs.declared.Checked.{Checked}
 use Rattle.table.specs.Refusal.{number}
 use Rattle.table.specs.State.{setUpCall}
-use Rattle.admission.specs.declared.Admission.{Admission}
-use Rattle.admission.specs.Admission.{admissionCall}
+use Rattle.bounds.specs.Admission.{admissionCall}
 use Rattle.rules.specs.declared.Occupant.{Occupant}
 use Rattle.rules.specs.declared.TickAnswer.{TickAnswer}
-use Rattle.rules.specs.declared.Ticked.{Ticked}
 use Rattle.rules.specs.declared.Moved.{Moved}
 use Rattle.rules.specs.Calls.{requestCall, tickCall}
 use Rattle.text.specs.declared.Line.{Line}
 use Rattle.text.specs.Lines.{lineBytes}
-use Rattle.lines.specs.Lines.{taskBoundLine, serverBoundLine, admittedLine, refusedLine, tickLine, finishLine, planRefusedLine}
-use Rattle.plan.specs.declared.Arrival.{Arrival}
+use Rattle.lines.specs.Lines.{refusedLine, tickLine, finishLine, planRefusedLine}
+use Rattle.fields.specs.declared.Arrival.{Arrival}
 use Rattle.plan.specs.declared.Answer.{Answer}
 use Rattle.plan.specs.declared.Plan.{Plan}
 use Rattle.plan.specs.Refusal as plan
 use Rattle.plan.specs.Plan.{planOf, arrivalsFrom}
-
--- ---- the head
--- a line for each element of a list, numbered from i
-unfoldable pub numbered : {A : Type 0} → (ℕ → A → Line) → ℕ → List A → List ℕ
-numbered line i [] = []
-numbered line i (x ∷ xs) = lineBytes (line i x) ++ numbered line (suc i) xs
-
--- "B: row (or S) and bound": a line for each task
-abbrev pub boundsText : ℕ → List ℕ → List ℕ
-boundsText i bs = numbered taskBoundLine i bs
-
--- the server's B line, then "V: admitted 1 or 0"
-unfoldable pub verdictText : ℕ → Bool → List ℕ
-verdictText bound admitted = lineBytes (serverBoundLine bound) ++ lineBytes (admittedLine admitted)
-
-unfoldable pub headText : ℕ → Admission → List ℕ
-headText n a = boundsText 0 (take n (a .bounds)) ++ verdictText (a .serverbound) (a .admitted)
+use Rattle.heading.specs.Heading as heading
 
 -- ---- one tick
 -- "A request refused for a full queue prints `N,tick,id,5`": the number is the refusal's; of an accepted plan no other comes
@@ -95,7 +75,7 @@ ticksText (suc k) t s rest =
 unfoldable pub textBy : Answer → Plan → List ℕ → List ℕ
 textBy (Answer.Refused k) p bytes = lineBytes (planRefusedLine (plan.number k) (p .line))
 textBy Answer.Accepted p bytes =
-    headText (p .table .n) (admissionCall (p .table))
+    heading.headText (p .table .n) (admissionCall (p .table))
     ++ ticksText (p .ticks) 0 (setUpCall (p .table) .state) (arrivalsFrom bytes 0)
 
 unfoldable pub scheduleText : List ℕ → List ℕ
@@ -103,5 +83,5 @@ scheduleText bytes = textBy (planOf bytes .answer) (planOf bytes) bytes
 
 -- all of the definitions open, to compute with
 unfoldable pub rules : Unit {0}
-unfolding numbered verdictText headText dueText afterDue later ticksText textBy scheduleText
+unfolding heading.rules dueText afterDue later ticksText textBy scheduleText
 rules = tt

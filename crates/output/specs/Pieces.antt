@@ -13,7 +13,7 @@ use Rattle.table.specs.declared.State.{State}
 use Rattle.table.specs.declared.Table.{Table}
 use Rattle.table.specs.State.{setUpCall}
 use Rattle.rules.specs.Calls.{tickCall}
-use Rattle.plan.specs.declared.Arrival.{Arrival}
+use Rattle.fields.specs.declared.Arrival.{Arrival}
 use Rattle.plan.specs.declared.Next.{Next}
 use Rattle.plan.specs.Plan.{nextFrom, unrolled}
 use Rattle.output.specs.declared.Place.{Place}

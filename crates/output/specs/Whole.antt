@@ -1,20 +1,22 @@
--- What the functions of this crate write into the buffers that they are lent is, in order, scheduleText: the Z line of a refused plan; the
--- head of an accepted one and then its filled buffers. (That `schedule` writes these bytes to standard output is tested, not proved.)
+-- What the functions of `heading` and of this crate write into the buffers that they are lent is, in order, scheduleText: the Z line of a
+-- refused plan; the head of an accepted one and then its filled buffers. (That `schedule` writes these bytes to standard output is
+-- tested, not proved.)
 use Prim.Native.Nat.{ℕ, _-_}
 use mathlib.Core.Path.{_≡_, sym, ap, _∙_}
 use mathlib.Core.List.{List, _++_}
 use native.Mathlib.Omega.{arith}
 use Rattle.table.specs.State.{setUpCall}
-use Rattle.admission.specs.Admission.{admissionCall}
+use Rattle.bounds.specs.Admission.{admissionCall}
 use Rattle.text.specs.Lines.{lineBytes}
 use Rattle.lines.specs.Lines.{planRefusedLine}
-use Rattle.plan.specs.declared.Arrival.{Arrival}
+use Rattle.fields.specs.declared.Arrival.{Arrival}
 use Rattle.plan.specs.declared.Answer.{Answer}
 use Rattle.plan.specs.declared.PlanRefusal.{PlanRefusal}
 use Rattle.plan.specs.Refusal.{number}
 use Rattle.plan.specs.Plan.{planOf, nextFrom, unrolled}
 use Rattle.plan.specs.Arrivals.{walked}
-use Rattle.output.specs.Output.{headText, ticksText, textBy, scheduleText}
+use Rattle.heading.specs.Heading.{headText}
+use Rattle.output.specs.Output.{ticksText, textBy, scheduleText}
 use Rattle.output.specs.Pieces.{textFrom, firstPlace, Fills, joined, pieces-whole}
 
 -- a refused plan: what `refused` writes

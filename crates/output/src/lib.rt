@@ -1,26 +1,20 @@
-// What `schedule` prints, piece by piece, in a lent buffer.
+// What `schedule` prints of the ticks, piece by piece, in a lent buffer.
 ghost use mathlib.Core.Path.{_≡_};
 ghost use Prim.Native.Nat.{ℕ, _+_, _*_, _<_, _≤_};
 ghost use lib.ListN.{length, take};
-ghost use Rattle.admission.specs.Admission.{admissionCall};
 ghost use Rattle.rules.specs.Calls.{tickCall};
-ghost use Rattle.text.specs.Buffer.{Wrote, ifRoom};
-ghost use Rattle.text.specs.Lines.{lineRoom, lineBytes};
-ghost use Rattle.lines.specs.Lines.{planRefusedLine};
-ghost use Rattle.plan.specs.Text.{maxNumber};
+ghost use Rattle.text.specs.Buffer.{Wrote};
+ghost use Rattle.text.specs.Lines.{lineRoom};
+ghost use Rattle.fields.specs.Text.{maxNumber};
 ghost use Rattle.plan.specs.Plan.{nextFrom};
-ghost use Rattle.plan.specs.Refusal.{number};
-ghost use Rattle.table.specs.Limits.{maxTasks};
 ghost use Rattle.scheduler.specs.Parts.{blockTicks};
-ghost use Rattle.output.specs.Rooms.{stepRoom, headRoom, blockRoom};
-ghost use Rattle.output.specs.Output.{boundsText, headText, verdictText, arrivalCall, answerText, occupantLine, finishText, tickText};
+ghost use Rattle.output.specs.Rooms.{stepRoom, blockRoom};
+ghost use Rattle.output.specs.Output.{arrivalCall, answerText, occupantLine, finishText, tickText};
 ghost use Rattle.queue.specs.Queue.{waitingOf};
 ghost use Rattle.output.specs.Blocks.{entryLine, blockText, Unfinished, Undisturbed, Free, NotDue, RanOn};
 ghost use Rattle.output.specs.Pieces.{firstPlace, Stepped, Filled};
-use admission::Admission;
-use plan::Arrival;
+use fields::Arrival;
 use plan::Next;
-use plan::PlanRefusal;
 use queue::Finish;
 use queue::Queue;
 use rules::Entry;
@@ -53,32 +47,6 @@ const BLOCK: u32 = Recording::TICKS as u32;
 
 // The room that must be there for ticks to be run at once: their X lines.
 const BLOCK_ROOM: usize = Recording::TICKS * text::LINE_ROOM;
-
-// The room that must be there for the head: a B line for each task, the server's, and the V line.
-pub const HEAD_ROOM: usize = (Table::MAX_TASKS as usize + 2) * text::LINE_ROOM;
-
-// The Z line of a refused plan, from the buffer's start.
-pub fn refused(out: &mut [u8], k: PlanRefusal, line: u32) -> usize
-    ensures { λ r. ⌜ (r ≤ lineRoom) × (Wrote (now (out .entry)) 0 (ifRoom lineRoom (now (out .entry)) 0 (lineBytes (planRefusedLine (number k) line))) (now (out .exit)) r) ⌝ }
-{
-    let n = plan::refusal_number(k);
-    text::write_line(out, 0, lines::plan_refused_line(n, line))
-}
-
-// The B line of each of n tasks, from the buffer's start.
-fn bounds_lines(out: &mut [u8], bounds: [u32; Table::MAX_TASKS as usize], n: u32) -> usize
-    requires { ⌜ (n ≤ maxTasks) × (headRoom ≤ length (now out)) ⌝ }
-    ensures { λ r. ⌜ (length bounds ≡ maxTasks) × (r ≤ n * lineRoom) × (Wrote (now (out .entry)) 0 (boundsText 0 (take n bounds)) (now (out .exit)) r) ⌝ }
-{
-    let mut at: usize = 0;
-    let mut i: u32 = 0;
-    while i < n {
-        let b = bounds[i as usize];
-        at = text::write_line(out, at, lines::task_bound_line(i, b));
-        i += 1;
-    }
-    at
-}
 
 // The X line of a tick.
 fn occupant_line(t: u32, who: Occupant, drops: u32) -> Line
@@ -135,36 +103,6 @@ fn tick_lines(out: &mut [u8], at: usize, t: u32, answer: TickAnswer) -> usize
         }
         TickAnswer::Refused(_) => at,
     }
-}
-
-// The server's B line and the V line.
-fn verdict_lines(out: &mut [u8], at: usize, serverbound: u32, admitted: bool) -> usize
-    requires { ⌜ at + stepRoom ≤ length (now out) ⌝ }
-    ensures { λ r. ⌜ (r ≤ at + stepRoom) × (Wrote (now (out .entry)) at (verdictText serverbound admitted) (now (out .exit)) r) ⌝ }
-{
-    let a = text::write_line(out, at, lines::server_bound_line(serverbound));
-    text::write_line(out, a, lines::admitted_line(admitted))
-}
-
-// The lines of the head: of n tasks those that a table holds.
-fn head_lines(out: &mut [u8], n: u32, a: Admission) -> usize
-    requires { ⌜ headRoom ≤ length (now out) ⌝ }
-    ensures { λ r. ⌜ (r ≤ headRoom) × (Wrote (now (out .entry)) 0 (headText n a) (now (out .exit)) r) ⌝ }
-{
-    let bounds = a.bounds;
-    let at = bounds_lines(out, bounds, lists::lesser(n, Table::MAX_TASKS));
-    verdict_lines(out, at, a.serverbound, a.admitted)
-}
-
-// The head of an accepted plan's output, from the buffer's start: nothing where HEAD_ROOM bytes are not there.
-pub fn head(out: &mut [u8], table: Table) -> usize
-    ensures { λ r. ⌜ (r ≤ headRoom) × (Wrote (now (out .entry)) 0 (ifRoom headRoom (now (out .entry)) 0 (headText (table .n) (admissionCall table))) (now (out .exit)) r) ⌝ }
-{
-    if out.len() < HEAD_ROOM {
-        return 0;
-    }
-    let n = table.n;
-    head_lines(out, n, admission::admit(table))
 }
 
 // Where the printing of an accepted plan starts.
@@ -367,20 +305,9 @@ pub fn fill(plan: &[u8], ticks: u32, out: &mut [u8], p: Place) -> Printed
     ensures { λ r. ⌜ Filled (now (plan .entry)) ticks (now (out .entry)) p (now (out .exit)) (r .at) (r .place) ⌝ }
 {
     let n = out.len();
-    if n < STEP_ROOM {
-        return Printed { place: p, at: 0 };
+    let mut r = Printed { place: p, at: 0 };
+    while (r.place.tick < ticks) & (r.at + STEP_ROOM <= n) {
+        r = step(plan, ticks, out, r.at, r.place);
     }
-    let last = n - STEP_ROOM;
-    let mut place = p;
-    let mut at: usize = 0;
-    while place.tick < ticks {
-        if last < at {
-            return Printed { place, at };
-        }
-        let r = step(plan, ticks, out, at, place);
-        let next = r.place;
-        place = next;
-        at = r.at;
-    }
-    Printed { place, at }
+    r
 }

@@ -13,7 +13,6 @@ use lib.Dec.{leb}
 use types.Run.{OneOf}
 use denote.Enum.Declared.{tagOf}
 use Rattle.lists.specs.Search.{upTo}
-use Rattle.plan.proofs.Line as line-type
 use Rattle.server.specs.declared.Server.{Server}
 use Rattle.table.specs.declared.Task.{Task}
 use Rattle.table.specs.declared.Table.{Table}
@@ -21,17 +20,18 @@ use Rattle.table.specs.declared.Checked.{Checked}
 use Rattle.queue.specs.Queue.{maxWork}
 use Rattle.table.specs.Limits.{maxTasks}
 use Rattle.table.specs.State.{tableCheck}
-use Rattle.plan.specs.declared.Arrival.{Arrival}
+use Rattle.fields.proofs.Line as line-type
+use Rattle.fields.specs.declared.Arrival.{Arrival}
+use Rattle.fields.specs.declared.Line.{Line}
+use Rattle.fields.specs.Text.{split}
+use Rattle.fields.specs.Lines.{lineOf}
+use Rattle.fields.specs.Search.{part-more, split-last}
 use Rattle.plan.specs.declared.Answer.{Answer}
 use Rattle.plan.specs.declared.PlanRefusal.{PlanRefusal}
 use Rattle.plan.specs.declared.Plan.{Plan}
 use Rattle.plan.specs.declared.Reading.{Reading}
-use Rattle.plan.specs.declared.Line.{Line}
 use Rattle.plan.specs.declared.Next.{Next}
-use Rattle.plan.specs.Text.{split}
-use Rattle.plan.specs.Lines.{lineOf}
 use Rattle.plan.specs.Plan.{freshReading, misplaced, badWork, judged, withTask, moved, refusedPlan, acceptedPlan, tabled, closing, ending, orElse, reads, maxBytes, planOf, orNext}
-use Rattle.plan.specs.Search.{part-more, split-last}
 
 -- whether a line may stand
 module _ (stage t : ℕ) (l : Line) where

@@ -8,13 +8,13 @@ use borrow.Author.Tests.{ltb-true, ltb-false}
 use lib.ListN.{length, take, drop, length-take, length-drop, drop-of-length-le}
 use lib.Dec.{ltb}
 use Rattle.lists.specs.Search.{upTo}
-use Rattle.plan.specs.declared.Arrival.{Arrival}
-use Rattle.plan.specs.declared.Line.{Line}
+use Rattle.fields.specs.declared.Arrival.{Arrival}
+use Rattle.fields.specs.declared.Line.{Line}
+use Rattle.fields.specs.Text.{split}
+use Rattle.fields.specs.Lines.{lineOf}
+use Rattle.fields.specs.Search.{part-more, split-last}
 use Rattle.plan.specs.declared.Next.{Next}
-use Rattle.plan.specs.Text.{split}
-use Rattle.plan.specs.Lines.{lineOf}
 use Rattle.plan.specs.Plan.{arrivalIn, arrivals, arrivalsFrom, unrolled, orNext, nextIn, nextFrom}
-use Rattle.plan.specs.Search.{part-more, split-last}
 
 -- a turn of the walk over the arrivals
 module _ (t : List ℕ) (at n : ℕ) (len : n ≡ length t) where

@@ -1,9 +1,5 @@
-pub mod Text
-pub mod Search
-pub mod Lines
 pub mod Refusal
 pub mod Plan
 pub mod Arrivals
-pub mod ReadBack
 pub mod PlanBack
 pub mod Cases

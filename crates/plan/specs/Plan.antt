@@ -12,16 +12,15 @@ use Rattle.table.specs.declared.Refusal.{Refusal}
 use Rattle.table.specs.declared.Checked.{Checked}
 use Rattle.table.specs.Limits.{maxTasks}
 use Rattle.table.specs.State.{tableCheck}
-use Rattle.text.specs.Decimal.{digits, valueFrom}
-use Rattle.plan.specs.declared.Arrival.{Arrival}
-use Rattle.plan.specs.declared.Line.{Line}
+use Rattle.fields.specs.declared.Arrival.{Arrival}
+use Rattle.fields.specs.declared.Line.{Line}
+use Rattle.fields.specs.Text.{Pieces, end, piece, split}
+use Rattle.fields.specs.Lines.{lineOf, rules as lineRules}
 use Rattle.plan.specs.declared.PlanRefusal.{PlanRefusal}
 use Rattle.plan.specs.declared.Answer.{Answer}
 use Rattle.plan.specs.declared.Reading.{Reading}
 use Rattle.plan.specs.declared.Plan.{Plan}
 use Rattle.plan.specs.declared.Next.{Next}
-use Rattle.plan.specs.Text.{Pieces, end, piece, split, numberTests, readNumber}
-use Rattle.plan.specs.Lines.{lineOf, numbers, oneOf, twoOf, threeOf, fourOf, byLetter}
 
 -- a table with nothing in it
 unfoldable pub blank : Table
@@ -151,5 +150,5 @@ unrolled text Next.Done = []
 
 -- all of the definitions open, to compute with
 unfoldable pub rules : Unit {0}
-unfolding digits valueFrom split numberTests readNumber numbers oneOf twoOf threeOf fourOf byLetter lineOf blank freshReading judged withTask moved refusedPlan acceptedPlan tabled closing ending reads planOf arrivals arrivalsFrom nextIn nextFrom unrolled
+unfolding lineRules blank freshReading judged withTask moved refusedPlan acceptedPlan tabled closing ending reads planOf arrivals arrivalsFrom nextIn nextFrom unrolled
 rules = tt

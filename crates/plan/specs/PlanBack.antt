@@ -18,16 +18,16 @@ use Rattle.table.specs.Limits.{maxTasks}
 use Rattle.table.specs.State.{tableCheck}
 use Rattle.text.specs.Decimal.{decimal, isDigit, digits}
 use Rattle.text.specs.ReadBack.{decimal-digits}
-use Rattle.plan.specs.declared.Arrival.{Arrival}
-use Rattle.plan.specs.declared.Line.{Line}
+use Rattle.fields.specs.declared.Arrival.{Arrival}
+use Rattle.fields.specs.declared.Line.{Line}
+use Rattle.fields.specs.Text.{piece, grow, split}
+use Rattle.fields.specs.Lines.{maxTicks, lineOf}
+use Rattle.fields.specs.ReadBack.{apart, first-digit, fields, AllFit, taskText, serverText, arrivalText, runText, task-back, server-back, arrival-back, run-back}
 use Rattle.plan.specs.declared.Answer.{Answer}
 use Rattle.plan.specs.declared.PlanRefusal.{PlanRefusal}
 use Rattle.plan.specs.declared.Reading.{Reading}
 use Rattle.plan.specs.declared.Plan.{Plan}
-use Rattle.plan.specs.Text.{piece, grow, split}
-use Rattle.plan.specs.Lines.{maxTicks, lineOf}
 use Rattle.plan.specs.Plan.{blank, freshReading, judged, withTask, moved, acceptedPlan, tabled, closing, ending, orElse, reads, refusedPlan, misplaced, badWork, maxBytes, planOf, arrivalIn, arrivals, arrivalsFrom}
-use Rattle.plan.specs.ReadBack.{apart, first-digit, fields, AllFit, taskText, serverText, arrivalText, runText, task-back, server-back, arrival-back, run-back}
 
 -- ---- text without a line feed
 unfoldable pub without : ℕ → List ℕ → Bool

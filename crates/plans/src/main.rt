@@ -2,7 +2,7 @@
 // Prints each name on a line of its own, then what `schedule` prints of the plan.
 ghost use Prim.Native.Nat.{ℕ, _≤_};
 ghost use lib.ListN.{length};
-ghost use Rattle.output.specs.Rooms.{headRoom};
+ghost use Rattle.heading.specs.Rooms.{headRoom};
 use plan::Answer;
 
 // The buffers for the cases and for what one of them prints.
@@ -28,12 +28,12 @@ fn print(text: &[u8], out: &mut [u8])
     let answer = r.answer;
     match answer {
         Answer::Refused(k) => {
-            let end = output::refused(out, k, r.line);
+            let end = heading::refused(out, k, r.line);
             write_part(out, 0, end);
         }
         Answer::Accepted => {
             let table = r.table;
-            let h = output::head(out, table);
+            let h = heading::head(out, table);
             write_part(out, 0, h);
             let p = output::first(text, table);
             let f = output::fill(text, r.ticks, out, p);

@@ -15,7 +15,7 @@ pub struct Request {
 
 impl Request {
     // The limits of a request that waits when the clock stands at `clock`.
-    pub fn fits(self, clock: u32) -> bool
+    fn fits(self, clock: u32) -> bool
         ensures { λ r. ⌜ r ≡ requestFits clock self ⌝ }
     {
         (1 <= self.work) & (self.work <= Queue::MAX_WORK) & (self.arrival <= clock)

@@ -8,7 +8,7 @@ use Rattle.lists.specs.Lists.{overlay}
 use Rattle.server.specs.declared.Server.{Server}
 use Rattle.queue.specs.declared.Finish.{Finish}
 use Rattle.table.specs.declared.Task.{Task}
-use Rattle.admission.specs.Admission.{admissionCall}
+use Rattle.bounds.specs.Admission.{admissionCall}
 use Rattle.rules.specs.declared.TickAnswer.{TickAnswer}
 use Rattle.rules.specs.declared.Occupant.{Occupant}
 use Rattle.rules.specs.Play.{task, server, table, Arrival, at, played, responses, dropsOf}

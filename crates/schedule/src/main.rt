@@ -1,7 +1,7 @@
 // `schedule`: a plan on standard input, what it prints on standard output. All but the reading and the writing is the library's.
 ghost use Prim.Native.Nat.{ℕ, _≤_};
 ghost use lib.ListN.{length};
-ghost use Rattle.output.specs.Rooms.{headRoom};
+ghost use Rattle.heading.specs.Rooms.{headRoom};
 use plan::Answer;
 use table::Table;
 
@@ -22,7 +22,7 @@ fn write_out(out: &[u8], n: usize) -> bool
 fn run(text: &[u8], table: Table, ticks: u32, out: &mut [u8])
     requires { ⌜ headRoom ≤ length (now out) ⌝ }
 {
-    let h = output::head(out, table);
+    let h = heading::head(out, table);
     if !write_out(out, h) {
         return;
     }
@@ -46,7 +46,7 @@ fn main() {
     let answer = r.answer;
     match answer {
         Answer::Refused(k) => {
-            let end = output::refused(&mut out, k, r.line);
+            let end = heading::refused(&mut out, k, r.line);
             write_out(&out, end);
         }
         Answer::Accepted => {

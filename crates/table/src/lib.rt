@@ -23,7 +23,7 @@ pub struct Task {
 
 impl Task {
     // "1 ≤ e ≤ D ≤ p ≤ 60,000 and f ≤ 60,000."
-    pub fn fits(self) -> bool
+    fn fits(self) -> bool
         ensures { λ r. ⌜ r ≡ taskFits self ⌝ }
     {
         let times = (self.period <= Table::MAX_TIME) & (self.phase <= Table::MAX_TIME);

@@ -15,9 +15,9 @@ use Rattle.table.specs.declared.Table.{Table}
 use Rattle.table.specs.Limits.{maxTasks}
 use Rattle.table.specs.Facts.{TaskLimits, ServerLimits, TableFacts, table-facts, task-used}
 use Rattle.table.specs.Model.{TaskSet, taskSetOf, noTask}
-use Rattle.admission.specs.Demand.{ownBound, serverBoundBy, serverBound, serverAdmitted}
-use Rattle.admission.specs.Admission.{admissionCall}
-use Rattle.admission.specs.Bounds.{Bound, OwnBound, own-is, Admits, admits}
+use Rattle.bounds.specs.Demand.{ownBound, serverBoundBy, serverBound, serverAdmitted}
+use Rattle.bounds.specs.Admission.{admissionCall}
+use Rattle.bounds.specs.Bounds.{Bound, OwnBound, own-is, Admits, admits}
 use Rattle.rules.specs.Tick.{kindAt}
 use Rattle.guarantee.specs.Proof.Items.{server, itemsDemand}
 use Rattle.guarantee.specs.Proof.Chain.{Sound, SoundAll}

@@ -10,7 +10,7 @@ use Rattle.server.specs.declared.Server.{Server}
 use Rattle.server.specs.Kind.{Kind}
 use Rattle.server.specs.Account.{Bits}
 use Rattle.table.specs.declared.Task.{Task}
-use Rattle.admission.specs.Demand.{tasksDemand}
+use Rattle.bounds.specs.Demand.{tasksDemand}
 use Rattle.rules.specs.Tick.{isOpen, anyOpen, opened, openedAll}
 use Rattle.guarantee.specs.Proof.Items.{Item, server, Cell, Cells, start, wants, later, taken, term, itemsDemand}
 use Rattle.guarantee.specs.Proof.Window.{cut, alone, Plain, Tasks, Sole}

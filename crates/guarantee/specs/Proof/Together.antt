@@ -8,8 +8,8 @@ use lib.ListN.{length, take}
 use Rattle.table.specs.declared.Table.{Table}
 use Rattle.table.specs.Limits.{maxTasks}
 use Rattle.table.specs.Model.{TaskSet, Model, taskSetOf}
-use Rattle.admission.specs.Demand.{ownBound}
-use Rattle.admission.specs.Bounds.{OwnBound}
+use Rattle.bounds.specs.Demand.{ownBound}
+use Rattle.bounds.specs.Bounds.{OwnBound}
 use Rattle.rules.specs.declared.Occupant.{Occupant}
 use Rattle.rules.specs.declared.Entry.{Entry}
 use Rattle.rules.specs.Tick.{kindAt, Tick, tick}

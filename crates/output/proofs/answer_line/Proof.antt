@@ -1,7 +1,7 @@
 -- `output::answer_line` meets its contract: nothing, or the line with the refusal's number.
 use mathlib.Core.Path.{sym, ap, _∙_}
 use native.Mathlib.Omega.{arith}
-use Rattle.output.proofs.Laws.{line-in}
+use Rattle.heading.specs.Laws.{line-in}
 use Rattle.text.specs.Buffer.{wrote-same, nothing-written}
 use Rattle.output.specs.Output.{answerText}
 use Rattle.lines.specs.Lines.{refusedLine}

@@ -8,7 +8,7 @@ use Rattle.scheduler.specs.Parts.{blockTicks}
 use Rattle.text.specs.Lines.{lineRoom}
 use Rattle.text.specs.Buffer.{Wrote, wrote-same, wrote-length}
 use Rattle.output.specs.Blocks.{entryLine, blockText}
-use Rattle.output.proofs.Laws.{numbered-next, numbered-none}
+use Rattle.heading.specs.Laws.{numbered-next, numbered-none}
 use Rattle.output.proofs.block_lines.Statement.{statement}
 use Rattle.output.proofs.block_lines.Tie as tie
 

@@ -2,50 +2,49 @@
 -- be printed from the place reached.
 use mathlib.Core.Path.{_≡_, refl}
 use native.Mathlib.Omega.{arith}
-use Prim.Native.Nat.{_≤_, _-_}
+use Prim.Native.Nat.{_+_, _≤_}
 use lib.ListN.{length}
 use Rattle.output.specs.Rooms.{stepRoom}
-use Rattle.output.proofs.Steps.{Filling, filling-starts, filling-on, filling-over, filling-full}
+use Rattle.output.proofs.Steps.{Filling, filling-starts, filling-on, filling-stops, tests-hold, test-fails}
 use Rattle.output.specs.Pieces.{stepsLeft}
 use borrow.Author.Needs.{needs}
 use Rattle.output.proofs.fill.Statement.{statement}
 use Rattle.output.proofs.fill.Tie as tie
 
 abbrev Inv-loop : tie.InvT-loop
-Inv-loop plan ticks out₀ n last place₀ at₀ out place at = (at ≤ length out₀) × (n ≡ length out₀) × (last ≡ n - stepRoom) × (stepRoom ≤ n) × (Filling plan ticks out₀ place₀ out at place)
+Inv-loop plan ticks out₀ n r₀ out r = (r .at ≤ length out₀) × (n ≡ length out₀) × (Filling plan ticks out₀ (r₀ .place) out (r .at) (r .place))
 
 abbrev μ-loop : tie.MeasureT-loop
-μ-loop plan ticks out₀ n last place₀ at₀ out place at = stepsLeft plan ticks place
-
-returns : tie.Need-returns Inv-loop μ-loop
-returns c = filling-full _ _ _ _ _ 0 _ (filling-starts _ _ _ _) (omega arith) (omega arith)
+μ-loop plan ticks out₀ n r₀ out r = stepsLeft plan ticks (r .place)
 
 loop-holds : tie.Need-loop-holds Inv-loop μ-loop
-loop-holds c = (omega arith, refl, refl, omega arith, filling-starts _ _ _ _)
+loop-holds c = (omega arith, refl, filling-starts _ _ _ _)
 
-same-length : tie.Need-same-length Inv-loop μ-loop
-same-length c = c .before .before .before .loop .inv .4 .same
-
-returns-2 : tie.Need-returns-2 Inv-loop μ-loop
-returns-2 c = let a = c .before .before .before .loop in filling-full _ _ _ _ _ _ _ (a .inv .4) (omega arith) (omega arith)
+add-if1 : tie.Need-add-if1 Inv-loop μ-loop
+add-if1 c = search needs
 
 step-requires : tie.Need-step-requires Inv-loop μ-loop
-step-requires c κs = search needs
+step-requires c κs =
+    let a = c .before .before .before .before .loop in
+    let h = tests-hold (a .r .place .tick) _ (a .r .at + stepRoom) _ (c .before .if1 .taken) in
+    (omega (arith, h .1, a .inv .2 .same), h .0)
 
 loop-less : tie.Need-loop-less Inv-loop μ-loop
-loop-less c = c .before .before .before .step .ensures .fewer
+loop-less c = c .before .before .step .ensures .fewer
 
 loop-again : tie.Need-loop-again Inv-loop μ-loop
 loop-again c =
-    let a = c .before .before .before .before .before .before .before .before .loop in
-    let s = c .before .before .before .step .ensures in
-    (omega (arith, s .ends, a .inv .4 .same), a .inv .1, a .inv .2, a .inv .3, filling-on _ _ _ _ _ _ _ _ _ _ (a .inv .4) s)
+    let a = c .before .before .before .before .before .before .before .loop in
+    let s = c .before .before .step .ensures in
+    (omega (arith, s .ends, a .inv .2 .same), a .inv .1, filling-on _ _ _ _ _ _ _ _ _ _ (a .inv .2) s)
 
-same-length-2 : tie.Need-same-length-2 Inv-loop μ-loop
-same-length-2 c = c .before .before .loop .inv .4 .same
+same-length : tie.Need-same-length Inv-loop μ-loop
+same-length c = c .before .before .before .loop .inv .2 .same
 
-returns-3 : tie.Need-returns-3 Inv-loop μ-loop
-returns-3 c = let a = c .before .before .loop in filling-over _ _ _ _ _ _ _ (a .inv .4) (a .inv .0) (c .if2 .left)
+returns : tie.Need-returns Inv-loop μ-loop
+returns c =
+    let a = c .before .before .before .loop in
+    filling-stops _ _ _ _ _ _ _ (a .inv .2) (a .inv .0) (test-fails (a .r .place .tick) _ (a .r .at + stepRoom) _ (c .if1 .left))
 
 pub fill-spec : {M : Type 1} → statement M
 fill-spec =
@@ -53,12 +52,10 @@ fill-spec =
     (tie.spec
     Inv-loop
     μ-loop
-    returns
     loop-holds
-    same-length
-    returns-2
+    add-if1
     step-requires
     loop-less
     loop-again
-    same-length-2
-    returns-3)
+    same-length
+    returns)

@@ -1,7 +1,7 @@
 -- `output::finish_lines` meets its contract: nothing, or the F line.
 use mathlib.Core.Path.{sym, ap}
 use native.Mathlib.Omega.{arith}
-use Rattle.output.proofs.Laws.{line-in}
+use Rattle.heading.specs.Laws.{line-in}
 use Rattle.text.specs.Buffer.{wrote-same, nothing-written}
 use Rattle.output.specs.Output.{finishText}
 use borrow.Author.Needs.{needs}

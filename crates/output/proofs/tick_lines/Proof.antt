@@ -1,7 +1,7 @@
 -- `output::tick_lines` meets its contract: the X line, then the F line if there is one.
 use mathlib.Core.Path.{sym, ap}
 use native.Mathlib.Omega.{arith}
-use Rattle.output.proofs.Laws.{line-in}
+use Rattle.heading.specs.Laws.{line-in}
 use Rattle.text.specs.Buffer.{wrote-same, nothing-written, then}
 use Rattle.output.specs.Output.{tickText}
 use borrow.Author.Needs.{needs}

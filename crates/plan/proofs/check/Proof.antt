@@ -1,6 +1,6 @@
 -- `plan::check` meets its contract. The invariant: what is left of the text, from the reading and the line so far, gives the plan that
 -- the whole text is.
-use Rattle.plan.specs.Text.{split}
+use Rattle.fields.specs.Text.{split}
 use Rattle.plan.specs.Plan.{maxBytes, planOf, reads}
 use Rattle.plan.proofs.Steps.{too-big, first-line, no-more, unclosed, stops, goes}
 use lib.ListN.{length, drop}

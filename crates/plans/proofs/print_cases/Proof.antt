@@ -2,8 +2,8 @@
 use lib.ListN.{length}
 use Prim.Native.Nat.{_≤_, _-_}
 use mathlib.Core.Path.{_≡_}
-use Rattle.plan.specs.Search.{found-le}
-use Rattle.output.specs.Rooms.{headRoom}
+use Rattle.fields.specs.Search.{found-le}
+use Rattle.heading.specs.Rooms.{headRoom}
 use borrow.Author.Needs.{needs}
 use Rattle.plans.proofs.print_cases.Statement.{statement}
 use Rattle.plans.proofs.print_cases.Tie as tie

@@ -4,7 +4,7 @@ use Prim.Native.Nat.{_≤_}
 use native.Mathlib.Omega.{arith}
 use lib.ListN.{length}
 use borrow.Author.Needs.{needs}
-use Rattle.output.specs.Rooms.{headRoom}
+use Rattle.heading.specs.Rooms.{headRoom}
 use Rattle.output.specs.Pieces.{stepsLeft}
 use Rattle.schedule.proofs.run.Statement.{statement}
 use Rattle.schedule.proofs.run.Tie as tie

@@ -1,0 +1,21 @@
+-- `fields::server_line` meets its contract: by whether there are four numbers.
+use Rattle.fields.specs.Lines.{serverLine}
+use mathlib.Core.Path.{sym, ap}
+use borrow.Author.Needs.{needs}
+use Rattle.fields.proofs.server_line.Statement.{statement}
+use Rattle.fields.proofs.server_line.Tie as tie
+
+enum-known-n : tie.Need-enum-known-n
+enum-known-n c = search needs
+
+enum-told : tie.Need-enum-told
+enum-told c = search needs
+
+returns : tie.Need-returns
+returns c = ap serverLine (sym (c .before .n .given .1))
+
+returns-2 : tie.Need-returns-2
+returns-2 c = search needs
+
+pub server-line-spec : {M : Type 1} → statement M
+server-line-spec = tie.close (tie.spec enum-known-n enum-told returns returns-2)

@@ -1,0 +1,5 @@
+pub mod Text
+pub mod Search
+pub mod Lines
+pub mod ReadBack
+pub mod Cases

@@ -4,6 +4,7 @@
 #[allow(dead_code, unexpected_cfgs)]
 mod abi;
 #[path = "src/convert.rs"]
+#[allow(dead_code)]
 mod convert;
 #[path = "src/standin.rs"]
 #[allow(dead_code)]

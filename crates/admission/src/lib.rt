@@ -13,8 +13,8 @@ ghost use Rattle.server.specs.Server.{serverDemand};
 ghost use Rattle.table.specs.Facts.{ServerLimits};
 ghost use Rattle.table.specs.Limits.{maxTasks};
 ghost use Rattle.table.specs.Model.{taskSetOf};
-ghost use Rattle.table.specs.Refusal.{passed};
-ghost use Rattle.table.specs.State.{tableCheck};
+ghost use Rattle.table.specs.Refusal.{passed, figures};
+ghost use Rattle.table.specs.State.{tableCheck, tableFigures};
 ghost use Rattle.bounds.specs.Demand.{bounds, ownBound, serverBound, serverAdmitted};
 ghost use Rattle.bounds.specs.Terms.{demandOf};
 ghost use Rattle.admission.specs.Jumps.{Asked, whole, maxTurns, TaskParts, ServerPart, ServerLead, PartsOf, Room, Counted, TasksAsked, TasksDemand, DemandAt, FirstOpen, NextOpen, OpenFrom, FirstMet};
@@ -429,7 +429,7 @@ fn admit_checked(table: Table) -> Admission
 
 // Admission: refusals 1, 2 and 3, or every bound, the server's bound, and whether the table is admitted.
 pub fn admit(table: Table) -> Admission
-    ensures { λ r. ⌜ r ≡ admissionCall table ⌝ }
+    ensures { λ r. ⌜ (r ≡ admissionCall table) × (figures (r .answer) ≡ tableFigures table) ⌝ }
 {
     let checked = table.check();
     match checked {

@@ -1,9 +1,10 @@
--- Laws of the demand: each bound is the least length that meets it, it never falls as the length grows, and the least length is unique.
+-- Laws of the demand: each bound is the least length that meets it, it never falls as the length grows, and the least length is unique. And
+-- what the admission call says in figures.
 use Prim.Native.Nat.{ℕ, zero, suc, _+_, _-_, _*_, _/_, _≤_, _<_}
 use native.Mathlib.Omega.{arith}
 use native.Mathlib.Nat.{div-zero, le-div-iff-mul-le, div-mul-le-self, le-refl, le-trans, mul-le-mul}
 use native.Mathlib.Decide.{decLe}
-use mathlib.Core.Path.{_≡_, refl, sym}
+use mathlib.Core.Path.{_≡_, refl, sym, ap, _∙_}
 use mathlib.Core.Bool.{Bool, true, false}
 use mathlib.Core.List.{List, [], _∷_}
 use lib.ListN.{take}
@@ -12,7 +13,14 @@ use Rattle.server.specs.declared.Server.{Server}
 use Rattle.server.specs.Kind.{Kind, background, polling, deferrable, sporadic, kindOf}
 use Rattle.server.specs.Server.{serverDemand}
 use Rattle.table.specs.declared.Task.{Task}
-use Rattle.table.specs.Model.{TaskSet}
+use Rattle.table.specs.declared.Table.{Table}
+use Rattle.table.specs.declared.Checked.{Checked}
+use Rattle.table.specs.Model.{TaskSet, taskSetOf}
+use Rattle.table.specs.Refusal.{figures}
+use Rattle.table.specs.State.{tableCheck, tableFigures}
+use Rattle.table.specs.Facts.{check-figures}
+use Rattle.bounds.specs.declared.Admission.{Admission}
+use Rattle.bounds.specs.Admission.{admissionBy, admissionCall}
 use Rattle.bounds.specs.Least.{least, IsLeast, Decided, least-decided}
 use Rattle.bounds.specs.Demand.{tasksDemand, below, demand, taskBound, ownDemand, ownBound}
 use Rattle.bounds.specs.Terms.{demandOf}
@@ -88,3 +96,11 @@ least-same d e same (suc k) L = rw (same L, least-same d e same k (suc L))
 pub own-least : (p : TaskSet) (k : ℕ) →
     least (demandOf p (p .server .place) (p .server .budget) false) k 1 ≡ least (ownDemand p) k 1
 own-least p k = least-same (demandOf p (p .server .place) (p .server .budget) false) (ownDemand p) (λ L. omega arith) k 1
+
+-- ---- the answer of the admission call says the table's figures
+pub admission-says : (t : Table) (a : Admission) → a ≡ admissionCall t → (a ≡ admissionCall t) × (figures (a .answer) ≡ tableFigures t)
+admission-says t a e = (e, ap (λ (x : Admission). figures (x .answer)) e ∙ by (tableCheck t) ∙ check-figures t)
+  where
+    by : (c : Checked) → figures (admissionBy c (taskSetOf t) .answer) ≡ figures c
+    by Checked.Passed = refl
+    by (Checked.Refused r) = refl

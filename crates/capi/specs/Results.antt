@@ -1,16 +1,13 @@
--- Each answer as numbers: "If an answer is an enum, a definition gives this paper's number and values for every case of the enum".
+-- Each answer as C reads it: document 01's figures (table/specs/Refusal, rules/specs/Figures) as numbers, with the state beside them.
 use Prim.Native.Nat.{ℕ}
 use Rattle.lists.specs.Numbers.{bitOf}
 use Rattle.queue.specs.declared.Finish.{Finish}
+use Rattle.queue.specs.Queue.{FinishFigures, finishFigures}
 use Rattle.table.specs.declared.State.{State}
-use Rattle.table.specs.declared.SetUp.{SetUp}
-use Rattle.table.specs.Refusal.{number, numberOf, valueOf}
+use Rattle.table.specs.Refusal.{Figures}
 use Rattle.bounds.specs.declared.Admission.{Admission}
 use Rattle.rules.specs.declared.Entry.{Entry}
-use Rattle.rules.specs.declared.Moved.{Moved}
-use Rattle.rules.specs.declared.TickAnswer.{TickAnswer}
-use Rattle.rules.specs.declared.Ticked.{Ticked}
-use Rattle.rules.specs.Calls.{entryBy}
+use Rattle.rules.specs.Figures.{TickFigures}
 use Rattle.capi.specs.declared.SetUpResult.{SetUpResult}
 use Rattle.capi.specs.declared.AdmissionResult.{AdmissionResult}
 use Rattle.capi.specs.declared.MovedResult.{MovedResult}
@@ -18,57 +15,43 @@ use Rattle.capi.specs.declared.TickResult.{TickResult}
 use Rattle.capi.specs.declared.Done.{Done}
 
 -- "A refusal returns its number, and for 2 the index"
-abbrev pub setUpResult : SetUp → SetUpResult
-setUpResult x = record { number = numberOf (x .answer); index = valueOf (x .answer); state = x .state }
+abbrev pub setUpResult : Figures → State → SetUpResult
+setUpResult f s = record { number = f .number; index = f .value; state = s }
 
 -- "V: admitted 1 or 0"
-abbrev pub admissionResult : Admission → AdmissionResult
-admissionResult x = record {
-  number = numberOf (x .answer);
-  index = valueOf (x .answer);
+abbrev pub admissionResult : Figures → Admission → AdmissionResult
+admissionResult f x = record {
+  number = f .number;
+  index = f .value;
   bounds = x .bounds;
   serverbound = x .serverbound;
   admitted = bitOf (x .admitted);
 }
 
 -- the answer of a request and of a run
-abbrev pub movedResult : Moved → MovedResult
-movedResult x = record { number = numberOf (x .answer); state = x .state }
+abbrev pub movedResult : Figures → State → MovedResult
+movedResult f s = record { number = f .number; state = s }
 
--- a finished request's id and response; where none finished all are 0
+-- the answer of a tick: its number, its record, what it finished, and the state after it
+abbrev pub tickResult : TickFigures → State → TickResult
+tickResult f s = record {
+  number = f .number;
+  kind = f .entry .kind;
+  id = f .entry .id;
+  drops = f .entry .drops;
+  finished = f .finish .finished;
+  request = f .finish .id;
+  response = f .finish .response;
+  state = s;
+}
+
+-- what a tick finished, as the code holds it, and the same in figures
 abbrev pub doneBy : Finish → Done
-doneBy Finish.Nothing = record { finished = 0; request = 0; response = 0 }
-doneBy (Finish.Finished i r) = record { finished = 1; request = i; response = r }
+doneBy f = record { finished = finishFigures f .finished; request = finishFigures f .id; response = finishFigures f .response }
 
--- the record of a tick, what it finished, and the state after it
-abbrev pub ranResult : Entry → Done → State → TickResult
-ranResult e d s = record {
-  number = 0;
-  kind = e .kind;
-  id = e .id;
-  drops = e .drops;
-  finished = d .finished;
-  request = d .request;
-  response = d .response;
-  state = s;
-}
+abbrev pub figuresBy : Done → FinishFigures
+figuresBy d = record { finished = d .finished; id = d .request; response = d .response }
 
--- of a refused tick all but the number and the state is 0
-abbrev pub refusedResult : ℕ → State → TickResult
-refusedResult m s = record {
-  number = m;
-  kind = 0;
-  id = 0;
-  drops = 0;
-  finished = 0;
-  request = 0;
-  response = 0;
-  state = s;
-}
-
-abbrev pub tickResultBy : TickAnswer → State → TickResult
-tickResultBy (TickAnswer.Ran o d f) s = ranResult (entryBy o d) (doneBy f) s
-tickResultBy (TickAnswer.Refused r) s = refusedResult (number r) s
-
-abbrev pub tickResult : Ticked → TickResult
-tickResult x = tickResultBy (x .answer) (x .state)
+-- the figures of a tick that ran
+abbrev pub ranBy : Entry → Done → TickFigures
+ranBy e d = record { number = 0; entry = e; finish = figuresBy d }

@@ -2,11 +2,12 @@
 // its arguments to the library's own call and turns the answer into document 01's numbers. include/pilqandur.h is the other side.
 ghost use mathlib.Core.Path.{_≡_};
 ghost use lib.ListN.{length};
-ghost use Rattle.table.specs.Refusal.{value, numberOf, valueOf};
-ghost use Rattle.table.specs.State.{setUpCall};
+ghost use Rattle.table.specs.Refusal.{value, numberOf, valueOf, figures};
+ghost use Rattle.table.specs.State.{freshState, tableFigures};
 ghost use Rattle.bounds.specs.Admission.{admissionCall};
 ghost use Rattle.rules.specs.Calls.{requestCall, tickCall, runCall, runList};
-ghost use Rattle.capi.specs.Results.{setUpResult, admissionResult, movedResult, doneBy, ranResult, tickResultBy, tickResult};
+ghost use Rattle.rules.specs.Figures.{requestFigures, runFigures, answerFigures, tickFigures};
+ghost use Rattle.capi.specs.Results.{setUpResult, admissionResult, movedResult, tickResult, doneBy, ranBy};
 use queue::Finish;
 use rules::Entry;
 use rules::Moved;
@@ -124,7 +125,7 @@ fn done_by(finish: Finish) -> Done
 
 // A request's or a run's answer.
 fn moved_result(moved: Moved) -> MovedResult
-    ensures { λ r. ⌜ r ≡ movedResult moved ⌝ }
+    ensures { λ r. ⌜ r ≡ movedResult (figures (moved .answer)) (moved .state) ⌝ }
 {
     let answer = moved.answer;
     let state = moved.state;
@@ -136,7 +137,7 @@ fn moved_result(moved: Moved) -> MovedResult
 
 // The answer of a tick that ran.
 fn ran_result(ran: Entry, done: Done, state: State) -> TickResult
-    ensures { λ r. ⌜ r ≡ ranResult ran done state ⌝ }
+    ensures { λ r. ⌜ r ≡ tickResult (ranBy ran done) state ⌝ }
 {
     TickResult {
         number: 0,
@@ -152,7 +153,7 @@ fn ran_result(ran: Entry, done: Done, state: State) -> TickResult
 
 // A tick's answer, whether it ran or not.
 fn tick_result_by(answer: TickAnswer, state: State) -> TickResult
-    ensures { λ r. ⌜ r ≡ tickResultBy answer state ⌝ }
+    ensures { λ r. ⌜ r ≡ tickResult (answerFigures answer) state ⌝ }
 {
     match answer {
         TickAnswer::Ran {
@@ -178,7 +179,7 @@ fn tick_result_by(answer: TickAnswer, state: State) -> TickResult
 // Set-up: the fresh state of a table, or refusal 1, 2 or 3.
 #[no_mangle]
 pub extern "C" fn pilqandur_set_up(table: Table) -> SetUpResult
-    ensures { λ r. ⌜ r ≡ setUpResult (setUpCall table) ⌝ }
+    ensures { λ r. ⌜ r ≡ setUpResult (tableFigures table) (freshState table) ⌝ }
 {
     let up = table.set_up();
     let answer = up.answer;
@@ -193,7 +194,7 @@ pub extern "C" fn pilqandur_set_up(table: Table) -> SetUpResult
 // Admission: the bounds of a table, or refusal 1, 2 or 3.
 #[no_mangle]
 pub extern "C" fn pilqandur_admit(table: Table) -> AdmissionResult
-    ensures { λ r. ⌜ r ≡ admissionResult (admissionCall table) ⌝ }
+    ensures { λ r. ⌜ r ≡ admissionResult (tableFigures table) (admissionCall table) ⌝ }
 {
     let a = admission::admit(table);
     let answer = a.answer;
@@ -210,7 +211,7 @@ pub extern "C" fn pilqandur_admit(table: Table) -> AdmissionResult
 // A request presented at the state's clock, or refusal 11, 4 or 5.
 #[no_mangle]
 pub extern "C" fn pilqandur_request(state: State, id: u32, work: u32) -> MovedResult
-    ensures { λ r. ⌜ r ≡ movedResult (requestCall state id work) ⌝ }
+    ensures { λ r. ⌜ r ≡ movedResult (requestFigures state work) (requestCall state id work .state) ⌝ }
 {
     moved_result(scheduler::request(state, id, work))
 }
@@ -218,7 +219,7 @@ pub extern "C" fn pilqandur_request(state: State, id: u32, work: u32) -> MovedRe
 // One tick, or refusal 11 or 6.
 #[no_mangle]
 pub extern "C" fn pilqandur_tick(state: State) -> TickResult
-    ensures { λ r. ⌜ r ≡ tickResult (tickCall state) ⌝ }
+    ensures { λ r. ⌜ r ≡ tickResult (tickFigures state) (tickCall state .state) ⌝ }
 {
     let ticked = scheduler::tick(state);
     let answer = ticked.answer;
@@ -229,7 +230,7 @@ pub extern "C" fn pilqandur_tick(state: State) -> TickResult
 // k ticks, the record of each in the lent list, or refusal 11, 6 or 10. The list is lent on.
 #[no_mangle]
 pub extern "C" fn pilqandur_run(state: State, k: u32, entries: &mut [Entry]) -> MovedResult
-    ensures { λ r. ⌜ (r ≡ movedResult (runCall state k (length (now (entries .entry))))) × (now (entries .exit) ≡ runList state k (now (entries .entry))) ⌝ }
+    ensures { λ r. ⌜ (r ≡ movedResult (runFigures state k (length (now (entries .entry)))) (runCall state k (length (now (entries .entry))) .state)) × (now (entries .exit) ≡ runList state k (now (entries .entry))) ⌝ }
 {
     let moved = scheduler::run(state, k, entries);
     moved_result(moved)

@@ -1,15 +1,15 @@
 -- Ticks that are run at once, of which none finishes a request and before whose last no A line is due: their X lines, from their
 -- record, are all that they print.
-use Prim.Native.Nat.{ℕ, zero, suc, _+_, _-_, _*_, _≤_, _<_}
+use Prim.Native.Nat.{ℕ, zero, suc, _+_, _*_, _≤_, _<_}
 use native.Mathlib.Omega.{arith}
 use native.Mathlib.Numerals.{add-one}
 use mathlib.Core.Path.{_≡_, refl, sym, ap, subst, _∙_}
 use mathlib.Core.Bool.{true, cond}
-use mathlib.Core.List.{List, [], _∷_, _++_, append-nil, append-assoc}
+use mathlib.Core.List.{List, [], _∷_, append-nil}
 use lib.ListN.{length, take}
 use lib.Dec.{eqb}
 use borrow.Author.Tests.{lt-leb}
-use Rattle.output.specs.Rooms.{blockRoom, stepRoom}
+use Rattle.output.specs.Rooms.{blockRoom}
 use Rattle.lists.specs.Lists.{take-overlay}
 use Rattle.queue.specs.declared.Request.{Request}
 use Rattle.queue.specs.declared.Finish.{Finish}
@@ -23,7 +23,7 @@ use Rattle.rules.specs.declared.Occupant.{Occupant}
 use Rattle.rules.specs.declared.Turn.{Turn}
 use Rattle.rules.specs.declared.Ticked.{Ticked}
 use Rattle.rules.specs.Tick.{workedQueue, finishOf, turnAt}
-use Rattle.rules.specs.Calls.{entryBy, entryOf, ticked, stateAfter, tickCall, ranBy, runState, runEntries, runCheck, runCall, runList}
+use Rattle.rules.specs.Calls.{entryBy, entryOf, ticked, stateAfter, tickCall, ranBy, runState, runEntries, runCheck, runList}
 use Rattle.rules.specs.Laws.{Sized}
 use Rattle.scheduler.specs.declared.Recording.{Recording}
 use Rattle.scheduler.specs.Parts.{blockTicks, mayRun, allowance, idleEntries, blockCall}
@@ -32,13 +32,11 @@ use Rattle.text.specs.declared.Line.{Line}
 use Rattle.text.specs.Lines.{lineRoom, lineBytes}
 use Rattle.lines.specs.Lines.{tickLine}
 use Rattle.text.specs.Buffer.{Wrote, wrote-same}
-use Rattle.fields.specs.declared.Arrival.{Arrival}
 use Rattle.plan.specs.declared.Next.{Next}
-use Rattle.plan.specs.Plan.{unrolled}
 use Rattle.output.specs.declared.Place.{Place}
 use Rattle.heading.specs.Heading.{numbered}
-use Rattle.output.specs.Output.{occupantLine, tickText, ticksText}
-use Rattle.output.specs.Pieces.{NoneDue, tick-first, textFrom}
+use Rattle.output.specs.Output.{occupantLine, tickText}
+use Rattle.output.specs.Steps.{Step, stepFrom, andThen, stepsFrom, Stepped, NotDue, step-tick, taken-same}
 
 -- "X: tick, I idle or T row or A request, row or id, drops", from "occupant kind (0 idle, 1 row, 2 request), its row or id .. and the drops"
 abbrev pub letter : ℕ → ℕ
@@ -116,119 +114,13 @@ module _ (s : State) (may : mayRun 1 s ≡ true) where
       let w = workedQueue (turnAt (taskSetOf (s .table)) (modelOf s)) (waitingOf (s .queue)) in
       rw (take-overlay (length w) w (s .queue .requests) refl) (worked-less (turnAt (taskSetOf (s .table)) (modelOf s)) (waitingOf (s .queue)) k h)
 
--- ---- the ticks of a block print their X lines
--- no A line at the front of a list is due before tick t
-abbrev pub NoneBefore : ℕ → List Arrival → Type 0
-NoneBefore t [] = Unit {0}
-NoneBefore t (a ∷ rest) = t ≤ a .tick
-
-none-now : (t k : ℕ) (rest : List Arrival) → NoneBefore (t + suc k) rest → NoneDue t rest
-none-now t k [] h = tt
-none-now t k (a ∷ rest) h = λ e. absurd (omega arith)
-
-pub block-first :
-    (k m t : ℕ) (s : State) (rest : List Arrival) → mayRun k s ≡ true → Sized s → Unfinished (waitingOf (s .queue)) k → NoneBefore (t + k) rest →
-    ticksText (k + m) t s rest ≡ blockText t (runEntries k s) ++ ticksText m (t + k) (runState k s) rest
-unfolding numbered
-block-first zero m t s rest may z u n =
-    let e : t + 0 ≡ t = omega arith in
-    let f : 0 + m ≡ m = omega arith in
-    rw (e, f) refl
-block-first (suc k) m t s rest may z u n =
-    let e : t + suc k ≡ suc t + k = omega arith in
-    let f : suc k + m ≡ suc (k + m) = omega arith in
-    let now : mayRun 1 s ≡ true = one k s may in
-    let on = onwards k s z may in
-    ap (λ (j : ℕ). ticksText j t s rest) f
-    ∙ tick-first (k + m) t s rest (none-now t k rest n)
-    ∙ rw (tick-line s now t k u, ap (λ (x : Ticked). x .state) (tick-ran s now), e)
-    (ap (λ (x : List ℕ). lineBytes (entryLine t (entryOf (ticked s))) ++ x)
-    (block-first k m (suc t) (stateAfter s) rest (on .0) (on .1) (after-less s now k u) (subst (λ (x : ℕ). NoneBefore x rest) e n))
-    ∙ sym (append-assoc (lineBytes (entryLine t (entryOf (ticked s)))) (blockText (suc t) (runEntries k (stateAfter s))) (ticksText m (suc t + k) (runState k (stateAfter s)) rest)))
-
--- ---- ticks run from a place
--- the next A line, if there is one, is not due at tick t
-abbrev pub NotDue : Next → ℕ → Type 0
-NotDue (Next.Found a q) t = a .tick ≡ t → ⊥
-NotDue Next.Done t = Unit {0}
-
--- some ticks are run from p: the buffer l, filled up to `at`, becomes m, filled up to r, and q is the place after them
-pub record RanOn (ticks : ℕ) (l : List ℕ) (at : ℕ) (p : Place) (m : List ℕ) (r : ℕ) (q : Place) : Type 0 where
-  pub text : List ℕ
-  pub wrote : Wrote l at text m r
-  pub prints : (bytes : List ℕ) → textFrom bytes ticks p ≡ text ++ textFrom bytes ticks q
-  pub fits : r ≤ length l
-  pub next : q .next ≡ p .next
-  pub later : p .tick < q .tick
-  pub within : q .tick ≤ ticks
-
-none-due : (n : Next) (t : ℕ) (bytes : List ℕ) → NotDue n t → NoneDue t (unrolled bytes n)
-unfolding unrolled
-none-due (Next.Found a q) t bytes h = h
-none-due Next.Done t bytes h = tt
-
-none-before : (n : Next) (t : ℕ) (bytes : List ℕ) → Undisturbed n t → NoneBefore t (unrolled bytes n)
-unfolding unrolled
-none-before (Next.Found a q) t bytes h = h
-none-before Next.Done t bytes h = tt
-
--- one tick
-pub ran-tick :
-    (ticks : ℕ) {l m : List ℕ} {at r : ℕ} (p q : Place) → at + stepRoom ≤ length l → r ≤ at + stepRoom → p .tick < ticks → NotDue (p .next) (p .tick) →
-    Wrote l at (tickText (p .tick) (tickCall (p .state) .answer)) m r → q ≡ record { tick = p .tick + 1; next = p .next; state = tickCall (p .state) .state } →
-    RanOn ticks l at p m r q
-unfolding textFrom
-ran-tick ticks {l} {m} {at} {r} p q room few early idle w e = subst (RanOn ticks l at p m r) (sym e) (record {
-  text = tickText (p .tick) (tickCall (p .state) .answer);
-  wrote = w;
-  prints = λ bytes. prints bytes;
-  fits = omega arith;
-  next = refl;
-  later = omega arith;
-  within = omega arith;
-})
-  where
-    prints : (bytes : List ℕ) → textFrom bytes ticks p ≡
-        tickText (p .tick) (tickCall (p .state) .answer) ++ textFrom bytes ticks (record { tick = p .tick + 1; next = p .next; state = tickCall (p .state) .state })
-    prints bytes =
-        let more : ticks - p .tick ≡ suc (ticks - suc (p .tick)) = omega arith in
-        ap (λ (k : ℕ). ticksText k (p .tick) (p .state) (unrolled bytes (p .next))) more
-        ∙ tick-first (ticks - suc (p .tick)) (p .tick) (p .state) (unrolled bytes (p .next)) (none-due (p .next) (p .tick) bytes idle)
-        ∙ ap (λ (t : ℕ). tickText (p .tick) (tickCall (p .state) .answer) ++ ticksText (ticks - t) t (tickCall (p .state) .state) (unrolled bytes (p .next))) (sym (add-one (p .tick)))
-
--- a block
-pub ran-block :
-    (ticks : ℕ) {l m : List ℕ} {at r : ℕ} (p q : Place) (k : ℕ) (b : Recording) → 0 < k → at + blockRoom ≤ length l → r ≤ at + k * lineRoom → Free ticks p k → Sized (p .state) →
-    b ≡ blockCall (p .state) k → b .answer ≡ Checked.Passed → Wrote l at (blockText (p .tick) (take k (b .entries))) m r →
-    q ≡ record { tick = p .tick + k; next = p .next; state = b .state } → RanOn ticks l at p m r q
-unfolding textFrom allowance blockCall
-ran-block ticks {l} {m} {at} {r} p q k b some room few free z eb ea w e = subst (RanOn ticks l at p m r) (sym place) (record {
+-- ---- the ticks of a block, one by one
+-- k ticks are run at once: their X lines
+abbrev ticksRun : ℕ → Place → Step
+ticksRun k p = record {
+  place = record { tick = p .tick + k; next = p .next; state = runState k (p .state) };
   text = blockText (p .tick) (runEntries k (p .state));
-  wrote = wrote-same (ap (λ (es : List Entry). blockText (p .tick) es) (ap (λ (x : Recording). take k (x .entries)) eb ∙ entries)) w;
-  prints = λ bytes. prints bytes;
-  fits = omega (arith, free .few);
-  next = refl;
-  later = omega arith;
-  within = free .ends;
-})
-  where
-    place : q ≡ record { tick = p .tick + k; next = p .next; state = runCall (p .state) k blockTicks .state }
-    place = e ∙ ap (λ (x : Recording). record { tick = p .tick + k; next = p .next; state = x .state }) eb
-
-    ok : passed (runCheck (p .state) k blockTicks) ≡ true
-    ok = ap passed (sym (ap (λ (x : Recording). x .answer) eb) ∙ ea)
-
-    entries : take k (runList (p .state) k idleEntries) ≡ runEntries k (p .state)
-    entries = rw ok (take-overlay k (runEntries k (p .state)) idleEntries (run-length k (p .state)))
-
-    may : mayRun k (p .state) ≡ true
-    may = rw ok at (starts (p .state) k blockTicks)
-
-    prints : (bytes : List ℕ) → textFrom bytes ticks p ≡
-        blockText (p .tick) (runEntries k (p .state)) ++ textFrom bytes ticks (record { tick = p .tick + k; next = p .next; state = runCall (p .state) k blockTicks .state })
-    prints bytes =
-        let all : ticks - p .tick ≡ k + (ticks - (p .tick + k)) = omega (arith, free .ends) in
-        rw (all, ok) (block-first k (ticks - (p .tick + k)) (p .tick) (p .state) (unrolled bytes (p .next)) may z (free .head) (none-before (p .next) (p .tick + k) bytes (free .next)))
+}
 
 -- a block's first tick is not due either
 pub free-not-due : (ticks : ℕ) (p : Place) (k : ℕ) → 0 < k → Free ticks p k → NotDue (p .next) (p .tick)
@@ -237,3 +129,67 @@ free-not-due ticks p k some free = go (p .next) (free .next)
     go : (n : Next) → Undisturbed n (p .tick + k) → NotDue n (p .tick)
     go (Next.Found a q) h = λ e. absurd (omega arith)
     go Next.Done h = tt
+
+-- one of them: its X line
+abbrev quietTick : Place → Step
+quietTick p = record {
+  place = record { tick = p .tick + 1; next = p .next; state = stateAfter (p .state) };
+  text = lineBytes (entryLine (p .tick) (entryOf (ticked (p .state))));
+}
+
+module _ (bytes : List ℕ) (ticks k : ℕ) (p : Place) (may : mayRun 1 (p .state) ≡ true) (free : Free ticks p (suc k)) where
+  quiet-step : stepFrom bytes ticks p ≡ quietTick p
+  quiet-step =
+      step-tick bytes ticks p (omega (arith, free .ends)) (free-not-due ticks p (suc k) (omega arith) free)
+      ∙ rw (tick-line (p .state) may (p .tick) k (free .head), ap (λ (x : Ticked). x .state) (tick-ran (p .state) may)) refl
+
+  quiet-free : Free ticks (quietTick p .place) k
+  quiet-free =
+      let e : p .tick + suc k ≡ p .tick + 1 + k = omega arith in
+      record {
+        few = omega (arith, free .few);
+        ends = omega (arith, free .ends);
+        next = subst (Undisturbed (p .next)) e (free .next);
+        head = after-less (p .state) may k (free .head);
+      }
+
+-- k ticks at once are k steps
+pub block-steps :
+    (bytes : List ℕ) (ticks k : ℕ) (p : Place) → mayRun k (p .state) ≡ true → Sized (p .state) → Free ticks p k →
+    stepsFrom bytes ticks k p ≡ ticksRun k p
+unfolding stepsFrom numbered
+block-steps bytes ticks zero p may z free = let e : p .tick + 0 ≡ p .tick = omega arith in rw e refl
+block-steps bytes ticks (suc k) p may z free =
+    let now : mayRun 1 (p .state) ≡ true = one k (p .state) may in
+    let on = onwards k (p .state) z may in
+    let e : p .tick + 1 + k ≡ p .tick + suc k = omega arith in
+    ap (λ (s : Step). andThen s (stepsFrom bytes ticks k (s .place))) (quiet-step bytes ticks k p now free)
+    ∙ ap (andThen (quietTick p)) (block-steps bytes ticks k (quietTick p .place) (on .0) (on .1) (quiet-free bytes ticks k p now free))
+    ∙ rw (e, add-one (p .tick)) refl
+
+-- a block is taken: as many steps as it has ticks
+pub block-taken :
+    (bytes : List ℕ) (ticks : ℕ) {l m : List ℕ} {at r : ℕ} (p q : Place) (k : ℕ) (b : Recording) → 0 < k → at + blockRoom ≤ length l → r ≤ at + k * lineRoom → Free ticks p k → Sized (p .state) →
+    b ≡ blockCall (p .state) k → b .answer ≡ Checked.Passed → Wrote l at (blockText (p .tick) (take k (b .entries))) m r →
+    q ≡ record { tick = p .tick + k; next = p .next; state = b .state } → Stepped bytes ticks l at p m r q
+unfolding allowance blockCall
+block-taken bytes ticks {l} {m} {at} {r} p q k b some room few free z eb ea w e = record {
+  steps = k;
+  some = some;
+  taken = taken-same (sym (block-steps bytes ticks k p may z free)) (record { place = place; wrote = wrote-same entries w; fits = omega (arith, free .few) });
+}
+  where
+    ok : passed (runCheck (p .state) k blockTicks) ≡ true
+    ok = ap passed (sym (ap (λ (x : Recording). x .answer) eb) ∙ ea)
+
+    may : mayRun k (p .state) ≡ true
+    may = rw ok at (starts (p .state) k blockTicks)
+
+    place : q ≡ ticksRun k p .place
+    place = e ∙ ap (λ (x : Recording). record { tick = p .tick + k; next = p .next; state = x .state }) eb ∙ rw ok refl
+
+    recorded : take k (runList (p .state) k idleEntries) ≡ runEntries k (p .state)
+    recorded = rw ok (take-overlay k (runEntries k (p .state)) idleEntries (run-length k (p .state)))
+
+    entries : blockText (p .tick) (take k (b .entries)) ≡ ticksRun k p .text
+    entries = ap (blockText (p .tick)) (ap (λ (x : Recording). take k (x .entries)) eb ∙ recorded)

@@ -4,8 +4,11 @@ use mathlib.Core.Path.{_≡_, refl}
 use mathlib.Core.List.{List, [], _∷_}
 use Rattle.lists.specs.Lists.{overlay}
 use Rattle.text.specs.Cases as text
+use Rattle.plan.specs.declared.Next.{Next}
 use Rattle.plan.specs.Plan as plan
+use Rattle.plan.specs.Plan.{planOf}
 use Rattle.output.specs.Output.{scheduleText, rules}
+use Rattle.output.specs.Steps.{Step, firstPlace, stepFrom, stepsFrom}
 
 -- document 01's listing
 the-listing :
@@ -28,12 +31,31 @@ no-ticks :
 unfolding rules text.rules plan.rules overlay
 no-ticks = refl
 
--- an A line at the end is not presented
+-- an A line at the end, of tick 1 in a plan of one tick, is not presented
+abbrev oneTick : List ℕ
+oneTick = 84 ∷ 44 ∷ 51 ∷ 44 ∷ 54 ∷ 44 ∷ 50 ∷ 44 ∷ 54 ∷ 10 ∷ 83 ∷ 44 ∷ 48 ∷ 44 ∷ 49 ∷ 44 ∷ 48 ∷ 44 ∷ 48 ∷ 10 ∷ 65 ∷ 44 ∷ 49 ∷ 44 ∷ 55 ∷ 44 ∷ 52 ∷ 10 ∷ 82 ∷ 44 ∷ 49 ∷ 10 ∷ []
+
 at-the-end :
-    scheduleText (84 ∷ 44 ∷ 51 ∷ 44 ∷ 54 ∷ 44 ∷ 50 ∷ 44 ∷ 54 ∷ 10 ∷ 83 ∷ 44 ∷ 48 ∷ 44 ∷ 49 ∷ 44 ∷ 48 ∷ 44 ∷ 48 ∷ 10 ∷ 65 ∷ 44 ∷ 49 ∷ 44 ∷ 55 ∷ 44 ∷ 52 ∷ 10 ∷ 82 ∷ 44 ∷ 49 ∷ 10 ∷ []) ≡
+    scheduleText oneTick ≡
     66 ∷ 44 ∷ 48 ∷ 44 ∷ 50 ∷ 10 ∷ 66 ∷ 44 ∷ 83 ∷ 44 ∷ 48 ∷ 10 ∷ 86 ∷ 44 ∷ 49 ∷ 10 ∷ 88 ∷ 44 ∷ 48 ∷ 44 ∷ 73 ∷ 44 ∷ 48 ∷ 44 ∷ 48 ∷ 10 ∷ []
 unfolding rules text.rules plan.rules overlay
 at-the-end = refl
+
+-- some steps from the start of that plan, of as many ticks as are asked for
+abbrev begun : ℕ → ℕ → Step
+begun ticks n = stepsFrom oneTick ticks n (firstPlace oneTick (planOf oneTick .table))
+
+-- of one tick: five steps are that tick and then nothing, and the A line still stands to be presented
+end-stays :
+    (begun 1 5 .place .tick ≡ 1) × (begun 1 5 .place .next ≡ Next.Found (record { tick = 1; id = 7; work = 4 }) 28)
+    × (begun 1 5 .text ≡ 88 ∷ 44 ∷ 48 ∷ 44 ∷ 73 ∷ 44 ∷ 48 ∷ 44 ∷ 48 ∷ 10 ∷ [])
+unfolding rules text.rules plan.rules overlay firstPlace stepFrom stepsFrom
+end-stays = (refl, refl, refl)
+
+-- of two: the second step presents the A line, before its tick, and the third is that tick
+arrival-steps : (begun 2 2 .place .tick ≡ 1) × (begun 2 2 .place .next ≡ Next.Done) × (begun 2 3 .place .tick ≡ 2)
+unfolding rules text.rules plan.rules overlay firstPlace stepFrom stepsFrom
+arrival-steps = (refl, refl, refl)
 
 -- two rows, a table that is not admitted: drop and release in one tick
 drops :

@@ -17,7 +17,9 @@ use Rattle.plan.specs.Plan.{planOf, nextFrom, unrolled}
 use Rattle.plan.specs.Arrivals.{walked}
 use Rattle.heading.specs.Heading.{headText}
 use Rattle.output.specs.Output.{ticksText, textBy, scheduleText}
-use Rattle.output.specs.Pieces.{textFrom, firstPlace, Fills, joined, pieces-whole}
+use Rattle.output.specs.Steps.{firstPlace}
+use Rattle.output.specs.Rest.{textFrom}
+use Rattle.output.specs.Pieces.{Fills, joined, pieces-whole}
 
 -- a refused plan: what `refused` writes
 pub refused-whole :

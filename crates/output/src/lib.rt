@@ -1,18 +1,18 @@
 // What `schedule` prints of the ticks, piece by piece, in a lent buffer.
 ghost use mathlib.Core.Path.{_≡_};
 ghost use Prim.Native.Nat.{ℕ, _+_, _*_, _<_, _≤_};
+ghost use mathlib.Core.List.{List};
 ghost use lib.ListN.{length, take};
-ghost use Rattle.rules.specs.Calls.{tickCall};
 ghost use Rattle.text.specs.Buffer.{Wrote};
 ghost use Rattle.text.specs.Lines.{lineRoom};
 ghost use Rattle.fields.specs.Text.{maxNumber};
-ghost use Rattle.plan.specs.Plan.{nextFrom};
 ghost use Rattle.scheduler.specs.Parts.{blockTicks};
 ghost use Rattle.output.specs.Rooms.{stepRoom, blockRoom};
-ghost use Rattle.output.specs.Output.{arrivalCall, answerText, occupantLine, finishText, tickText};
+ghost use Rattle.output.specs.Output.{answerText, occupantLine, finishText, tickText};
 ghost use Rattle.queue.specs.Queue.{waitingOf};
-ghost use Rattle.output.specs.Blocks.{entryLine, blockText, Unfinished, Undisturbed, Free, NotDue, RanOn};
-ghost use Rattle.output.specs.Pieces.{firstPlace, Stepped, Filled};
+ghost use Rattle.output.specs.Steps.{firstPlace, presented, tickRun, Taken, Stepped, NotDue};
+ghost use Rattle.output.specs.Blocks.{entryLine, blockText, Unfinished, Undisturbed, Free};
+ghost use Rattle.output.specs.Pieces.{Filled};
 use fields::Arrival;
 use plan::Next;
 use queue::Finish;
@@ -39,7 +39,7 @@ pub struct Printed {
     pub at: usize,
 }
 
-// The room that must be there for a step to begin: an X line and an F line. (Where there is room for more, a step may run more ticks.)
+// The room that must be there for a step to begin: an X line and an F line. (Where there is room for more, several may be taken at once.)
 pub const STEP_ROOM: usize = 2 * text::LINE_ROOM;
 
 // The most ticks that are run at once.
@@ -119,7 +119,7 @@ pub fn first(plan: &[u8], table: Table) -> Place
 // Presents the A line a, which is due; q is where the line after it starts.
 fn present(plan: &[u8], out: &mut [u8], at: usize, p: Place, a: Arrival, q: usize) -> Printed
     requires { ⌜ at + stepRoom ≤ length (now out) ⌝ }
-    ensures { λ r. ⌜ (r .at ≤ at + stepRoom) × (Wrote (now (out .entry)) at (answerText (p .tick) (a .id) (arrivalCall (p .state) a .answer)) (now (out .exit)) (r .at)) × (r .place ≡ record { tick = p .tick; next = nextFrom (now (plan .entry)) q; state = arrivalCall (p .state) a .state }) ⌝ }
+    ensures { λ r. ⌜ Taken (presented (now (plan .entry)) p a q) (now (out .entry)) at (now (out .exit)) (r .at) (r .place) ⌝ }
 {
     let state = p.state;
     let m = scheduler::request(state, a.id, a.work);
@@ -139,7 +139,7 @@ fn present(plan: &[u8], out: &mut [u8], at: usize, p: Place, a: Arrival, q: usiz
 // Runs a tick that no A line is due for any more.
 fn run_tick(out: &mut [u8], at: usize, p: Place) -> Printed
     requires { ⌜ (at + stepRoom ≤ length (now out)) × (p .tick < maxNumber) ⌝ }
-    ensures { λ r. ⌜ (r .at ≤ at + stepRoom) × (Wrote (now (out .entry)) at (tickText (p .tick) (tickCall (p .state) .answer)) (now (out .exit)) (r .at)) × (r .place ≡ record { tick = p .tick + 1; next = p .next; state = tickCall (p .state) .state }) ⌝ }
+    ensures { λ r. ⌜ Taken (tickRun p) (now (out .entry)) at (now (out .exit)) (r .at) (r .place) ⌝ }
 {
     let state = p.state;
     let next = p.next;
@@ -246,7 +246,7 @@ fn with_room(k: u32, n: usize, at: usize) -> u32
 // Runs k ticks at once.
 fn run_ticks(out: &mut [u8], at: usize, p: Place, k: u32) -> Printed
     requires { ⌜ (0 < k) × (k ≤ blockTicks) × (p .tick + k ≤ maxNumber) × (at + blockRoom ≤ length (now out)) ⌝ }
-    ensures { λ r. ⌜ ((ticks : ℕ) → Free ticks p k → RanOn ticks (now (out .entry)) at p (now (out .exit)) (r .at) (r .place)) ⌝ }
+    ensures { λ r. ⌜ ((bytes : List ℕ) (ticks : ℕ) → Free ticks p k → Stepped bytes ticks (now (out .entry)) at p (now (out .exit)) (r .at) (r .place)) ⌝ }
 {
     let state = p.state;
     let next = p.next;
@@ -273,7 +273,7 @@ fn run_ticks(out: &mut [u8], at: usize, p: Place, k: u32) -> Printed
 // Runs ticks that no A line is due for any more: as many at once as can be, or one.
 fn run_on(ticks: u32, out: &mut [u8], at: usize, p: Place) -> Printed
     requires { ⌜ (at + stepRoom ≤ length (now out)) × (p .tick < ticks) × NotDue (p .next) (p .tick) ⌝ }
-    ensures { λ r. ⌜ RanOn ticks (now (out .entry)) at p (now (out .exit)) (r .at) (r .place) ⌝ }
+    ensures { λ r. ⌜ ((bytes : List ℕ) → Stepped bytes ticks (now (out .entry)) at p (now (out .exit)) (r .at) (r .place)) ⌝ }
 {
     let k = with_room(free_ticks(ticks, p), out.len(), at);
     if k < 2 {
@@ -282,7 +282,7 @@ fn run_on(ticks: u32, out: &mut [u8], at: usize, p: Place) -> Printed
     run_ticks(out, at, p, k)
 }
 
-// One step: an A line that is due, or else the tick.
+// Goes on by some steps, one at least: an A line that is due, or else ticks.
 fn step(plan: &[u8], ticks: u32, out: &mut [u8], at: usize, p: Place) -> Printed
     requires { ⌜ (at + stepRoom ≤ length (now out)) × (p .tick < ticks) ⌝ }
     ensures { λ r. ⌜ Stepped (now (plan .entry)) ticks (now (out .entry)) at p (now (out .exit)) (r .at) (r .place) ⌝ }
@@ -309,5 +309,16 @@ pub fn fill(plan: &[u8], ticks: u32, out: &mut [u8], p: Place) -> Printed
     while (r.place.tick < ticks) & (r.at + STEP_ROOM <= n) {
         r = step(plan, ticks, out, r.at, r.place);
     }
-    r
+    // What is handed back is the place that the steps reached: its tick, its next A line and its state.
+    let reached = r.place;
+    let next = reached.next;
+    let state = reached.state;
+    Printed {
+        place: Place {
+            tick: reached.tick,
+            next,
+            state,
+        },
+        at: r.at,
+    }
 }

@@ -1,5 +1,6 @@
 pub mod Refusal
 pub mod Plan
+pub mod Figures
 pub mod Arrivals
 pub mod PlanBack
 pub mod Cases

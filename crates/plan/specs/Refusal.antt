@@ -2,6 +2,7 @@
 use Prim.Native.Nat.{ℕ}
 use Rattle.table.specs.Refusal as call
 use Rattle.plan.specs.declared.PlanRefusal.{PlanRefusal}
+use Rattle.plan.specs.declared.Answer.{Answer}
 
 -- the table "No. | Word | Given if"
 abbrev pub number : PlanRefusal → ℕ
@@ -16,3 +17,12 @@ value PlanRefusal.TooLong = 0
 value PlanRefusal.BadLine = 0
 value PlanRefusal.Misplaced = 0
 value (PlanRefusal.Call r) = call.value r
+
+-- 0 and 0 where the plan, or the line, is accepted
+abbrev pub numberOf : Answer → ℕ
+numberOf Answer.Accepted = 0
+numberOf (Answer.Refused r) = number r
+
+abbrev pub valueOf : Answer → ℕ
+valueOf Answer.Accepted = 0
+valueOf (Answer.Refused r) = value r

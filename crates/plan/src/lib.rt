@@ -1,6 +1,7 @@
 // The plan text: the order of its lines, the check of a whole plan, and the search for its A lines.
 ghost use mathlib.Core.Path.{_≡_};
 ghost use Rattle.plan.specs.Refusal.{number};
+ghost use Rattle.plan.specs.Figures.{answerFigures, planFigures};
 ghost use Rattle.plan.specs.Plan.{blank, freshReading, judged, withTask, moved, refusedPlan, closing, planOf, nextFrom};
 use fields::Arrival;
 use fields::Line;
@@ -231,7 +232,7 @@ fn finish(st: Reading, line: u32) -> Plan
 
 // What plan the bytes are, or why and at which line they are none.
 pub fn check(plan: &[u8]) -> Plan
-    ensures { λ r. ⌜ r ≡ planOf (now (plan .entry)) ⌝ }
+    ensures { λ r. ⌜ (r ≡ planOf (now (plan .entry))) × (answerFigures r ≡ planFigures (now (plan .entry))) ⌝ }
 {
     let n = plan.len();
     if MAX_BYTES < n {

@@ -1,31 +1,43 @@
--- Where the guarantee and the code meet. `admit` answers by `admissionCall` and `play` ends where `final` does: that is their
--- contracts. So a table that the code admits keeps the guarantee in every list of calls that the code plays.
-use mathlib.Core.Path.{_≡_, ap}
+-- Where the guarantee and the code meet: what `play` promises of its report besides that it is what the definitions say. The ticks that it
+-- counts are the clock's, and where it reports a table admitted, it reports no drop, and the list of calls keeps the guarantee.
+use Prim.Native.Nat.{ℕ, suc, _<_}
+use native.Mathlib.Omega.{arith}
+use mathlib.Core.Path.{_≡_, refl, ap, _∙_}
 use mathlib.Core.Bool.{true}
-use mathlib.Core.List.{List}
-use Prim.Native.Nat.{ℕ}
+use mathlib.Core.List.{List, [], _∷_}
+use lib.ListN.{length, getD}
 use Rattle.table.specs.declared.Table.{Table}
-use Rattle.table.specs.declared.State.{State}
 use Rattle.table.specs.State.{freshState}
-use Rattle.bounds.specs.declared.Admission.{Admission}
-use Rattle.bounds.specs.Admission.{admissionCall}
-use Rattle.guarantee.specs.Calls.{final, clockAfter}
+use Rattle.guarantee.specs.Calls.{Call, RanTick, noTick, ticks, clockAfter}
 use Rattle.guarantee.specs.Guarantee.{Guarantee}
 use Rattle.guarantee.specs.Kept.{guarantee}
-use Rattle.play.specs.Numbers.{callsOf}
+use Rattle.play.specs.declared.Report.{Report}
+use Rattle.play.specs.Report.{dropsOf, reported}
+use Rattle.play.specs.Laws.{made-clock}
 
--- what is promised of a played list and of the state s after it
-pub record Promise (t : Table) (numbers : List ℕ) (s : State) : Type 0 where
-  pub state : s ≡ final (freshState t) (callsOf numbers)
-  -- the clock that the guarantee speaks of is the one of that state
-  pub clock : s .progress .clock ≡ clockAfter t (callsOf numbers)
-  pub guarantee : Guarantee t (callsOf numbers)
+-- what is promised of a table, a list of calls, and what is reported of them
+pub record Promise (t : Table) (calls : List Call) (r : Report) : Type 0 where
+  -- the clock that the guarantee speaks of is the one of the state handed back
+  pub clock : r .state .progress .clock ≡ clockAfter t calls
+  -- that clock is the number of the ticks reported
+  pub numbered : r .ticks ≡ r .state .progress .clock
+  -- where the table is reported admitted, no drop is reported, and the list keeps the guarantee
+  pub nodrop : r .admitted ≡ true → r .drops ≡ 0
+  pub guarantee : r .admitted ≡ true → Guarantee t calls
 
--- a is what `admit` answered (its contract), s what `play` returned (its contract)
-pub promise : (t : Table) (a : Admission) (numbers : List ℕ) (s : State) →
-    a ≡ admissionCall t → a .admitted ≡ true → s ≡ final (freshState t) (callsOf numbers) → Promise t numbers s
-promise t a numbers s e h p = record {
-  state = p;
-  clock = ap (λ (x : State). x .progress .clock) p;
-  guarantee = guarantee t (rw e at h) (callsOf numbers);
+-- ticks without a drop have none together
+none-dropped : (xs : List RanTick) → ((u : ℕ) → u < length xs → getD xs u noTick .entry .drops ≡ 0) → dropsOf xs ≡ 0
+none-dropped [] h = refl
+none-dropped (x ∷ xs) h = omega (arith, h 0 (omega arith), none-dropped xs (λ u b. h (suc u) (omega arith)))
+
+-- what the definitions say keeps the promise
+pub promise : (t : Table) (calls : List Call) (r : Report) → r ≡ reported t calls → Promise t calls r
+promise t calls r e = record {
+  clock = ap (λ (x : Report). x .state .progress .clock) e;
+  numbered = omega (arith, ap (λ (x : Report). x .ticks) e, ap (λ (x : Report). x .state .progress .clock) e, made-clock calls (freshState t));
+  nodrop = λ h. ap (λ (x : Report). x .drops) e ∙ none-dropped (ticks t calls) (λ u b. kept h .nodrop u (omega (arith, kept h .numbered)));
+  guarantee = kept;
 }
+  where
+    kept : r .admitted ≡ true → Guarantee t calls
+    kept h = guarantee t (rw e at h) calls

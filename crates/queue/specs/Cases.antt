@@ -8,7 +8,7 @@ use Rattle.lists.specs.Lists.{overlay}
 use Rattle.queue.specs.declared.Request.{Request}
 use Rattle.queue.specs.declared.Queue.{Queue}
 use Rattle.queue.specs.declared.Finish.{Finish}
-use Rattle.queue.specs.Queue.{workFits, waitingOf, queueWith, freshQueue, waits, headId, presented, served, finished, requestFits, requestsFit}
+use Rattle.queue.specs.Queue.{workFits, waitingOf, queueWith, freshQueue, waits, headId, presented, served, finished, finishFigures, requestFits, requestsFit}
 
 -- id, work left, arrival
 abbrev ask : ℕ → ℕ → ℕ → Request
@@ -31,6 +31,8 @@ pub record QueueCases : Type 0 where
   pub responds : finished 6 (waitingOf three) ≡ Finish.Finished 7 4
   pub unfinished : finished 6 (ask 8 2 5 ∷ []) ≡ Finish.Nothing
   pub none-finished : finished 6 [] ≡ Finish.Nothing
+  pub finish-figures : finishFigures (finished 6 (waitingOf three)) ≡ record { finished = 1; id = 7; response = 4 }
+  pub no-finish-figures : finishFigures (finished 6 []) ≡ record { finished = 0; id = 0; response = 0 }
   -- a slot that the list does not reach keeps what it held
   pub slots-kept : queueWith three (served (waitingOf three)) ≡ record { requests = ask 8 2 5 ∷ ask 8 2 5 ∷ ask 9 9 9 ∷ []; n = 1 }
   pub work-limits : map workFits (0 ∷ 1 ∷ 60_000 ∷ 60_001 ∷ []) ≡ false ∷ true ∷ true ∷ false ∷ []
@@ -52,6 +54,8 @@ queue-cases = record {
   responds = refl;
   unfinished = refl;
   none-finished = refl;
+  finish-figures = refl;
+  no-finish-figures = refl;
   slots-kept = refl;
   work-limits = refl;
   arrival-limits = refl;

@@ -57,6 +57,16 @@ abbrev pub finished : ℕ → List Request → Finish
 finished t [] = Finish.Nothing
 finished t (r ∷ q) = cond (leb (r .work) 1) (Finish.Finished (r .id) (t + 1 - r .arrival)) Finish.Nothing
 
+-- what a tick finished, in figures: 1, the request's id and its response; 0 in each where it finished none
+pub record FinishFigures : Type 0 where
+  pub finished : ℕ
+  pub id : ℕ
+  pub response : ℕ
+
+abbrev pub finishFigures : Finish → FinishFigures
+finishFigures Finish.Nothing = record { finished = 0; id = 0; response = 0 }
+finishFigures (Finish.Finished id response) = record { finished = 1; id = id; response = response }
+
 -- Refusal 11: "a waiting work outside 1 to 60,000", or "an arrival .. after the clock".
 abbrev pub requestFits : ℕ → Request → Bool
 requestFits clock r = workFits (r .work) && leb (r .arrival) clock

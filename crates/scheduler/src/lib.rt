@@ -3,8 +3,10 @@
 // the tick of the tick call; `running` and `service` are the ticks of a run.
 ghost use lib.ListN.{length};
 ghost use mathlib.Core.Path.{_≡_};
+ghost use Rattle.table.specs.Refusal.{figures};
 ghost use Rattle.rules.specs.Calls.{requestCall, tickCall, runCall, runList};
-ghost use Rattle.scheduler.specs.Parts.{blockCall};
+ghost use Rattle.rules.specs.Figures.{requestFigures, answerFigures, tickFigures, runFigures};
+ghost use Rattle.scheduler.specs.Parts.{blockTicks, blockCall};
 use rules::Entry;
 use rules::Moved;
 use rules::TickAnswer;
@@ -30,7 +32,7 @@ mod work;
 
 // The tick call: one tick at the state's clock, or refusal 11 or 6.
 pub fn tick(state: State) -> Ticked
-    ensures { λ r. ⌜ r ≡ tickCall state ⌝ }
+    ensures { λ r. ⌜ (r ≡ tickCall state) × (answerFigures (r .answer) ≡ tickFigures state) ⌝ }
 {
     if !state.fit() {
         return Ticked {
@@ -50,7 +52,7 @@ pub fn tick(state: State) -> Ticked
 
 // The request call: a request presented at the state's clock, or refusal 11, 4 or 5.
 pub fn request(state: State, id: u32, work: u32) -> Moved
-    ensures { λ r. ⌜ r ≡ requestCall state id work ⌝ }
+    ensures { λ r. ⌜ (r ≡ requestCall state id work) × (figures (r .answer) ≡ requestFigures state work) ⌝ }
 {
     if !state.fit() {
         return Moved {
@@ -97,7 +99,7 @@ impl Recording {
 
 // The run call with a list of idle entries, as many as a block has: a caller that lends none has the record of the ticks all the same.
 pub fn run_block(state: State, k: u32) -> Recording
-    ensures { λ r. ⌜ r ≡ blockCall state k ⌝ }
+    ensures { λ r. ⌜ (r ≡ blockCall state k) × (figures (r .answer) ≡ runFigures state k blockTicks) ⌝ }
 {
     let allowed = check_run(state, k, Recording::TICKS);
     let answer = allowed.answer;
@@ -139,7 +141,7 @@ pub fn run_block(state: State, k: u32) -> Recording
 // The run call: k ticks, the record of each in the lent list, or refusal 11, 6 or 10. Fitness is looked at once, the tasks only
 // where the calm ends, and the queue is written only where its head leaves.
 pub fn run(state: State, k: u32, entries: &mut [Entry]) -> Moved
-    ensures { λ r. ⌜ (r ≡ runCall state k (length (now (entries .entry)))) × (now (entries .exit) ≡ runList state k (now (entries .entry))) ⌝ }
+    ensures { λ r. ⌜ (r ≡ runCall state k (length (now (entries .entry)))) × (now (entries .exit) ≡ runList state k (now (entries .entry))) × (figures (r .answer) ≡ runFigures state k (length (now (entries .entry)))) ⌝ }
 {
     let lent = entries.len();
     let allowed = check_run(state, k, lent);

@@ -70,6 +70,7 @@ pub fn run_tick(state: State) -> Ticked
     let occupant = occupant_of(turn, head.id);
     if to_request(turn) {
         let finish = finish_of(progress.clock, queue);
+        let served = queue.serve();
         return Ticked {
             answer: TickAnswer::Ran {
                 occupant,
@@ -79,7 +80,7 @@ pub fn run_tick(state: State) -> Ticked
             state: State {
                 table,
                 progress: next,
-                queue: queue.serve(),
+                queue: served,
             },
         };
     }

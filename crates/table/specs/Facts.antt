@@ -1,8 +1,8 @@
 -- The limits as facts that `omega` reads: of a task, of a server, of a table that passes, and of a fit state.
 use Prim.Native.Nat.{ℕ, zero, suc, _≤_, _<_}
 use native.Mathlib.Omega.{arith}
-use mathlib.Core.Path.{_≡_, refl, sym, _∙_}
-use mathlib.Core.Bool.{Bool, true, false, cond, _&&_}
+use mathlib.Core.Path.{_≡_, refl, sym, ap, _∙_}
+use mathlib.Core.Bool.{Bool, true, false, cond, not, _&&_}
 use mathlib.Core.List.{List, [], _∷_}
 use borrow.Author.Tests.{leb-true, eqb-true, ltb-false, le-leb}
 use lib.ListN.{length, take, getD, length-take}
@@ -23,8 +23,8 @@ use Rattle.table.specs.declared.State.{State}
 use Rattle.table.specs.declared.Refusal.{Refusal}
 use Rattle.table.specs.declared.Checked.{Checked}
 use Rattle.table.specs.Limits.{maxTasks, lastKind, taskTests, taskFits, firstBad, serverTests, backgroundTests, budgetTests, serverFits, checkServer, checkTasks}
-use Rattle.table.specs.Refusal.{passed}
-use Rattle.table.specs.State.{tableCheck, leftFits, sporadicFits, serverStateFits, modelFits, fit}
+use Rattle.table.specs.Refusal.{passed, figures, groundWith, ground, noGround}
+use Rattle.table.specs.State.{tableCheck, tableFigures, leftFits, sporadicFits, serverStateFits, modelFits, fit}
 use Rattle.table.specs.Model.{taskSetOf, modelOf}
 pub use Rattle.table.specs.Model.{noTask}
 
@@ -129,6 +129,24 @@ pub task-used : (t : Table) (i : ℕ) → TableFacts t → i < length (taskSetOf
 task-used t i f h =
     let n : length (taskSetOf t .tasks) ≤ t .n = omega (arith, length-take (t .n) (t .tasks)) in
     task-limits _ (all-at taskFits noTask i (t .n) (taskSetOf t .tasks) (omega arith) h (rw (take-all (t .n) (taskSetOf t .tasks) n) (f .tasks)))
+
+-- ---- the answer of the check in document 01's figures
+pub check-figures : (t : Table) → figures (tableCheck t) ≡ tableFigures t
+check-figures t =
+    let xs = taskSetOf t .tasks in
+    by (between 1 maxTasks (t .n)) (ltb (firstBad xs) (length xs)) (serverFits (t .server) (t .n)) (firstBad xs)
+  where
+    by : (count bad server : Bool) (i : ℕ) →
+        figures (cond count (cond bad (Checked.Refused (Refusal.BadTask i)) (cond server Checked.Passed (Checked.Refused Refusal.BadServer))) (Checked.Refused Refusal.TaskCount)) ≡
+        ground (not count) 1 (groundWith bad 2 i (ground (not server) 3 noGround))
+    by false bad server i = refl
+    by true true server i = refl
+    by true false true i = refl
+    by true false false i = refl
+
+-- an answer that is the check's says its figures
+pub checked : (t : Table) (a : Checked) → a ≡ tableCheck t → (a ≡ tableCheck t) × (figures a ≡ tableFigures t)
+checked t a e = (e, ap figures e ∙ check-figures t)
 
 -- ---- a fit state
 pub record StateFacts (s : State) : Type 0 where

@@ -1,10 +1,11 @@
 -- The fresh state, the fit state (refusal 11) and set-up.
 use Prim.Native.Nat.{ℕ}
-use mathlib.Core.Bool.{Bool, true, false, _&&_}
+use mathlib.Core.Bool.{Bool, true, false, not, _&&_}
 use mathlib.Core.List.{List}
-use lib.ListN.{replicate}
-use lib.Dec.{leb}
+use lib.ListN.{length, replicate}
+use lib.Dec.{leb, ltb}
 use Rattle.lists.specs.Lists.{allWith}
+use Rattle.lists.specs.Tests.{between}
 use Rattle.server.specs.Limits.{lastClock, lastNr}
 use Rattle.server.specs.declared.Server.{Server}
 use Rattle.server.specs.declared.Sporadic.{Sporadic}
@@ -17,8 +18,8 @@ use Rattle.table.specs.declared.Table.{Table}
 use Rattle.table.specs.declared.State.{State}
 use Rattle.table.specs.declared.Checked.{Checked}
 use Rattle.table.specs.declared.SetUp.{SetUp}
-use Rattle.table.specs.Limits.{maxTasks, checkTable}
-use Rattle.table.specs.Refusal.{passed}
+use Rattle.table.specs.Limits.{maxTasks, firstBad, serverFits, checkTable}
+use Rattle.table.specs.Refusal.{passed, Figures, groundWith, ground, noGround}
 use Rattle.table.specs.Model.{TaskSet, Model, taskSetOf, modelOf}
 
 -- "A fresh state .. its clock, times and marks are 0, and nothing is open or waiting."
@@ -32,6 +33,15 @@ freshState t = record {
 -- refusals 1, 2 and 3 of a table
 abbrev pub tableCheck : Table → Checked
 tableCheck t = checkTable (taskSetOf t .tasks) (t .server) (t .n)
+
+-- the same in figures: 1 if there is no row or more than 16; else 2, with the first such index, if a row breaks its limits; else 3 if the
+-- server breaks its limits; else 0
+abbrev pub tableFigures : Table → Figures
+tableFigures t =
+    ground (not (between 1 maxTasks (t .n))) 1
+    (groundWith (ltb (firstBad (taskSetOf t .tasks)) (length (taskSetOf t .tasks))) 2 (firstBad (taskSetOf t .tasks))
+    (ground (not (serverFits (t .server) (t .n))) 3
+    noGround))
 
 -- Refusal 11: "a row's work above e"
 abbrev pub leftFits : Task → ℕ → Bool

@@ -6,8 +6,8 @@ ghost use Rattle.lists.specs.Lists.{allWith};
 ghost use Rattle.lists.specs.Tests.{every};
 ghost use Rattle.table.specs.Limits.{maxTasks, taskFits, firstBad, budgetTests, backgroundTests, serverFits};
 ghost use mathlib.Core.Bool.{true};
-ghost use Rattle.table.specs.Refusal.{number, passed};
-ghost use Rattle.table.specs.State.{freshState, tableCheck, leftFits, serverStateFits, fit, setUpCall};
+ghost use Rattle.table.specs.Refusal.{number, passed, figures};
+ghost use Rattle.table.specs.State.{freshState, tableCheck, tableFigures, leftFits, serverStateFits, fit, setUpCall};
 use queue::Queue;
 use server::Server;
 use server::ServerState;
@@ -129,7 +129,7 @@ impl Table {
 
     // Refusals 1, 2 with the first bad index, and 3, in this order.
     pub fn check(self) -> Checked
-        ensures { λ r. ⌜ r ≡ tableCheck self ⌝ }
+        ensures { λ r. ⌜ (r ≡ tableCheck self) × (figures r ≡ tableFigures self) ⌝ }
     {
         let n = self.n;
         if n < 1 {
@@ -152,7 +152,7 @@ impl Table {
 
     // Set-up: the fresh state, and whether the table passes.
     pub fn set_up(self) -> SetUp
-        ensures { λ r. ⌜ r ≡ setUpCall self ⌝ }
+        ensures { λ r. ⌜ (r ≡ setUpCall self) × (figures (r .answer) ≡ tableFigures self) ⌝ }
     {
         SetUp {
             answer: self.check(),

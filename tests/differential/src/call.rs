@@ -1,6 +1,6 @@
 //! One library call, made on both sides and compared.
 
-use second::{Entry, State, Table};
+use second::{Entry, Service, State, Table, Ticked};
 
 use crate::abi::Calls;
 use crate::convert::*;
@@ -74,7 +74,7 @@ pub fn compare(calls: &Calls, state: &State, call: &Call) -> Result<State, Strin
     }
 }
 
-fn same<T: PartialEq + std::fmt::Debug>(what: &str, second: T, library: T) -> Result<(), String> {
+pub fn same<T: PartialEq + std::fmt::Debug>(what: &str, second: T, library: T) -> Result<(), String> {
     if second == library {
         return Ok(());
     }
@@ -143,11 +143,8 @@ fn compare_tick(calls: &Calls, before: &State) -> Result<State, String> {
     let library = unsafe { (calls.tick)(to_state(before)) };
     same("number", ticked.err().unwrap_or(0), library.number)?;
     if let Ok(ticked) = ticked {
-        same("entry", ticked.entry, Entry { kind: library.kind, id: library.id, drops: library.drops })?;
         same("finished", ticked.finish.is_some() as u32, library.finished)?;
-        if let Some(finish) = ticked.finish {
-            same("finish", (finish.id, finish.response), (library.request, library.response))?;
-        }
+        same_answer(&ticked, &from_tick(&library))?;
     }
     same_state(&next, &from_state(&library.state))?;
     Ok(next)
@@ -168,16 +165,35 @@ fn compare_run(calls: &Calls, before: &State, k: u32, lent: usize) -> Result<Sta
     Ok(next)
 }
 
+/// The answer of a tick that was carried out.
+pub fn same_answer(second: &Ticked, library: &Ticked) -> Result<(), String> {
+    same("entry", second.entry, library.entry)?;
+    same("finish", second.finish, library.finish)
+}
+
 /// Every slot, in use or not.
-fn same_state(second: &State, library: &State) -> Result<(), String> {
+pub fn same_state(second: &State, library: &State) -> Result<(), String> {
     same("clock", second.clock, library.clock)?;
-    same("service", second.service, library.service)?;
-    same("left", second.left, library.left)?;
+    same_service(&second.service, &library.service)?;
+    for i in 0..second.left.len() {
+        same(&format!("left of row {i}"), second.left[i], library.left[i])?;
+    }
     same("waiting", second.waiting, library.waiting)?;
     for i in 0..second.queue.len() {
         same(&format!("queue slot {i}"), second.queue[i], library.queue[i])?;
     }
     same("table", second.table, library.table)
+}
+
+fn same_service(second: &Service, library: &Service) -> Result<(), String> {
+    same("budget", second.budget, library.budget)?;
+    same("tr", second.tr, library.tr)?;
+    same("begin", second.begin, library.begin)?;
+    same("nr", second.nr, library.nr)?;
+    same("served", second.served, library.served)?;
+    same("late", second.late, library.late)?;
+    same("above", second.above, library.above)?;
+    same("busy", second.busy, library.busy)
 }
 
 /// How often the steps below are gone through.

@@ -56,6 +56,13 @@ pub fn from_state(state: &abi::State) -> second::State {
     }
 }
 
+pub fn from_tick(tick: &abi::TickResult) -> second::Ticked {
+    second::Ticked {
+        entry: second::Entry { kind: tick.kind, id: tick.id, drops: tick.drops },
+        finish: (tick.finished == 1).then_some(second::Finish { id: tick.request, response: tick.response }),
+    }
+}
+
 pub fn to_entry(entry: second::Entry) -> abi::Entry {
     abi::Entry { kind: entry.kind, id: entry.id, drops: entry.drops }
 }

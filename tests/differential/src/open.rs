@@ -1,9 +1,10 @@
-//! The library from a shared object, opened while the program runs.
+//! The library by name: linked, the stand-in, or a shared object, opened while the program runs.
 
 use std::ffi::{c_char, c_int, c_void, CString};
 use std::mem::transmute;
 
-use crate::abi::{Calls, NAMES};
+use crate::abi::{linked, Calls, NAMES};
+use crate::standin;
 
 extern "C" {
     fn dlopen(path: *const c_char, flags: c_int) -> *mut c_void;
@@ -12,7 +13,16 @@ extern "C" {
 
 const RTLD_NOW: c_int = 2;
 
-pub fn open(path: &str) -> Option<Calls> {
+/// `linked` (a program built with that feature), `second` (the second implementation), or the path of a shared object.
+pub fn find(library: &str) -> Option<Calls> {
+    match library {
+        "linked" => linked(),
+        "second" => Some(standin::CALLS),
+        path => open(path),
+    }
+}
+
+fn open(path: &str) -> Option<Calls> {
     let path = CString::new(path).ok()?;
     // SAFETY: the path is a C string; the object's start-up code is trusted as a linked library's would be.
     let library = unsafe { dlopen(path.as_ptr(), RTLD_NOW) };

@@ -1,11 +1,14 @@
-//! The papers' own tables and worked examples, held against the second implementation.
+//! The papers' own tables and worked examples, held against the second implementation and against the product's own calls.
 //!
-//! `tables` replays document 004's fixed-priority tables line by line; `examples` holds what documents 000, 001 and
-//! 002 say of their examples. Each scenario is also a plan (`*.plan`) with its output (`*.out`) for any program that
-//! claims to be `schedule`.
+//! `replay` goes through a plan tick by tick, by the second implementation or by a library's calls; `tables` holds document
+//! 004's fixed-priority tables against such a replay, line by line; `beside` does so with the library's and compares it, tick by tick,
+//! with the second implementation's. `examples` holds what documents 000, 001 and 002 say of their examples. Each scenario is also a
+//! plan (`*.plan`) with its output (`*.out`) for any program that claims to be `schedule`.
 
+pub mod beside;
 pub mod departures;
 pub mod examples;
+pub mod replay;
 pub mod tables;
 pub mod text;
 
@@ -27,6 +30,11 @@ impl Report {
     pub fn fault(&mut self, line: String) {
         self.faults.push(line);
     }
+
+    pub fn join(&mut self, other: Report) {
+        self.lines.extend(other.lines);
+        self.faults.extend(other.faults);
+    }
 }
 
 pub fn read(dir: &Path, name: &str) -> String {
@@ -47,7 +55,8 @@ pub fn plans(dir: &Path) -> Vec<String> {
 pub fn check(dir: &Path) -> Report {
     let mut report = Report::default();
     for table in tables::TABLES {
-        tables::check(dir, table, &mut report);
+        let ticks = replay::by_second(&tables::plan(dir, table.name));
+        tables::check(dir, table, "the second implementation", &ticks, &mut report);
     }
     for example in examples::EXAMPLES {
         examples::check(dir, example, &mut report);

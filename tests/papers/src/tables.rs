@@ -4,10 +4,9 @@ use std::path::Path;
 
 use second::plan::{read, Plan};
 use second::table::POLLING;
-use second::tick::Opened;
-use second::{Finish, State};
 
 use crate::departures::{Departure, DEPARTURES};
+use crate::replay::Tick;
 use crate::text::{self, plain, ticks, units};
 use crate::Report;
 
@@ -23,7 +22,7 @@ pub const TABLES: &[Expected] = &[
     Expected { name: "sporadic", responses: ["4.75", "4.50", "3.75"] },
 ];
 
-/// One tick as a line of the paper would show it.
+/// One tick as a line of the paper would show it: the middle of the tick, between steps 3 and 4, and who then executes.
 struct Shown {
     queue: String,
     budget: u32,
@@ -36,46 +35,36 @@ struct Shown {
     end: Option<u32>,
 }
 
-/// Every tick of the plan, and the finished requests.
-fn replay(plan: &Plan) -> (Vec<Shown>, Vec<Finish>) {
-    let mut state = State::set_up(plan.table).expect("the papers' tables keep the limits");
-    let (mut shown, mut finished, mut end) = (Vec::new(), Vec::new(), None);
-    for t in 0..plan.ticks {
-        for arrival in plan.arrivals.iter().filter(|arrival| arrival.tick == t) {
-            state.request(arrival.id, arrival.work).expect("the queue has room");
-        }
-        let above_before = state.service.above;
-        let opened = state.begin_tick();
-        if opened.above.is_some() {
+/// The ticks as lines. END is the first tick without an open row above after one with: the mark of the state before it holds, and the
+/// mark of the state after it does not.
+fn lines(replayed: &[Tick]) -> Vec<Shown> {
+    let mut end = None;
+    let line = |tick: &Tick| {
+        if tick.after.service.above {
             end = None;
-        } else if above_before {
-            end = Some(t);
+        } else if tick.before.service.above {
+            end = Some(tick.before.clock);
         }
-        let mut line = show(&state, &opened, end);
-        let ticked = state.end_tick(opened);
-        line.execute = executed(&plan.table, t, ticked.entry.kind, ticked.entry.id);
-        line.budget_after = state.service.budget;
-        line.tr = state.service.tr;
-        line.te = state.service.served.then(|| state.service.nr - plan.table.server.period);
-        shown.push(line);
-        finished.extend(ticked.finish);
-    }
-    (shown, finished)
+        show(tick, end)
+    };
+    replayed.iter().map(line).collect()
 }
 
-/// The middle of a tick, between steps 3 and 4.
-fn show(state: &State, opened: &Opened, end: Option<u32>) -> Shown {
-    let waiting = state.waiting().iter().map(|request| format!("A{}[{}]", request.id, units(request.work)));
+/// What a column shows, and where it is read. The queue: in the state before the tick, since steps 1 to 3 leave it. tr, te and begin: in
+/// the state after it, since only step 3 and the first service, both at this time, set them; te is nr less the period, once it is fixed.
+fn show(tick: &Tick, end: Option<u32>) -> Shown {
+    let (before, after) = (&tick.before, &tick.after.service);
+    let waiting = before.waiting().iter().map(|request| format!("A{}[{}]", request.id, units(request.work)));
     Shown {
         queue: list(waiting.collect()),
-        budget: state.service.budget,
-        budget_after: 0,
-        run_queue: list(run_queue(state)),
-        execute: String::new(),
-        tr: 0,
-        te: None,
-        begin: state.service.begin,
-        end: if opened.above.is_some() { None } else { end },
+        budget: tick.budget,
+        budget_after: after.budget,
+        run_queue: list(run_queue(tick)),
+        execute: executed(tick),
+        tr: after.tr,
+        te: if after.served { after.nr.checked_sub(before.table.server.period) } else { None },
+        begin: after.begin,
+        end,
     }
 }
 
@@ -88,31 +77,39 @@ fn list(items: Vec<String>) -> String {
 }
 
 /// The open jobs and, in its place, the server: a poller if it has budget, the others if they have work for it too.
-fn run_queue(state: &State) -> Vec<String> {
-    let server = &state.table.server;
-    let eligible = state.service.budget > 0 && (server.kind == POLLING || state.waiting > 0);
+fn run_queue(tick: &Tick) -> Vec<String> {
+    let table = &tick.before.table;
+    let eligible = tick.budget > 0 && (table.server.kind == POLLING || tick.before.waiting > 0);
     let mut items = Vec::new();
-    for i in 0..=state.table.n as usize {
-        if i == server.place as usize && eligible {
+    for i in 0..=table.n as usize {
+        if i == table.server.place as usize && eligible {
             items.push("JS".to_string());
         }
-        if i < state.table.n as usize && state.left[i] > 0 {
-            items.push(format!("{}[{}]", job(&state.table, state.clock, i), units(state.left[i])));
+        if i < table.n as usize && left(tick, i) > 0 {
+            items.push(format!("{}[{}]", job(tick, i), units(left(tick, i))));
         }
     }
     items
 }
 
-/// Row i's job at tick t, numbered from 1 as in the paper.
-fn job(table: &second::Table, t: u32, i: usize) -> String {
-    format!("J{},{}", i + 1, (t - table.rows[i].phase) / table.rows[i].period + 1)
+/// Row i's execution left after steps 1 and 2: what the tick leaves, and the one that step 5 took from the row that executed.
+fn left(tick: &Tick, i: usize) -> u32 {
+    let entry = tick.answer.entry;
+    tick.after.left[i] + (entry.kind == 1 && entry.id as usize == i) as u32
 }
 
-fn executed(table: &second::Table, t: u32, kind: u32, id: u32) -> String {
-    match kind {
-        0 => "-".to_string(),
-        1 => job(table, t, id as usize),
-        _ => "JS".to_string(),
+/// Row i's job, numbered from 1 as in the paper.
+fn job(tick: &Tick, i: usize) -> String {
+    let row = tick.before.table.rows[i];
+    format!("J{},{}", i + 1, (tick.before.clock - row.phase) / row.period + 1)
+}
+
+fn executed(tick: &Tick) -> String {
+    match (tick.answer.entry.kind, tick.answer.entry.id) {
+        (0, _) => "-".to_string(),
+        (1, i) if i < tick.before.table.n => job(tick, i as usize),
+        (2, _) => "JS".to_string(),
+        (kind, id) => format!("kind {kind}, id {id}"),
     }
 }
 
@@ -132,49 +129,163 @@ fn ruled(column: &str, shown: &Shown, second_line: bool) -> String {
     }
 }
 
-pub fn check(dir: &Path, expected: &Expected, report: &mut Report) {
+pub fn plan(dir: &Path, name: &str) -> Plan {
+    read(crate::read(dir, &format!("004-{name}.plan")).as_bytes()).expect("a good plan")
+}
+
+fn table(dir: &Path, name: &str) -> text::Table {
+    text::table(&crate::read(dir, &format!("004-{name}.table")))
+}
+
+/// The tick of the last budget that the table prints.
+pub fn last_budget(dir: &Path, name: &str) -> u32 {
+    let table = table(dir, name);
+    let line = (0..table.lines.len()).rfind(|&line| !table.cell(line, "Budget").is_empty()).expect("a budget");
+    ticks(&table.lines[line][0]).expect("a time")
+}
+
+/// The paper's table against a replay by `who`.
+pub fn check(dir: &Path, expected: &Expected, who: &str, replayed: &[Tick], report: &mut Report) {
     let name = expected.name;
-    let plan = read(crate::read(dir, &format!("004-{name}.plan")).as_bytes()).expect("a good plan");
-    let table = text::table(&crate::read(dir, &format!("004-{name}.table")));
-    let (shown, finished) = replay(&plan);
-    let mut count = Count::default();
+    let table = table(dir, name);
+    let mut check = Check { name, who, table: &table, shown: &lines(replayed), count: Count::default(), report };
     for line in 0..table.lines.len() {
-        check_line(name, &table, line, &shown, &mut count, report);
-        check_span(name, &table, line, &shown, &mut count, report);
+        check.line(line);
+        check.span(line);
     }
-    report.say(format!(
-        "document 004, RM + {name} server: {} lines, {} cells agree, {} left blank by the paper, {} ticks' occupants agree",
-        table.lines.len(),
-        count.cells,
-        count.blank,
-        count.ticks
-    ));
-    say_departures(name, &count, report);
-    check_responses(expected, &finished, report);
+    check.say();
+    check.say_departures();
+    check_responses(expected, replayed, report);
 }
 
 #[derive(Default)]
 struct Count {
     cells: usize,
     blank: usize,
-    ticks: usize,
+    occupants: usize,
+    /// Budgets between steps 3 and 4, of ticks that have no line.
+    within: usize,
+    /// Budgets after step 5.
+    after: usize,
     departed: Vec<(usize, String)>,
 }
 
-fn check_line(name: &str, table: &text::Table, line: usize, shown: &[Shown], count: &mut Count, report: &mut Report) {
-    let cells = &table.lines[line];
-    let second_line = line > 0 && table.lines[line - 1][0] == cells[0];
-    let at = &shown[ticks(&cells[0]).expect("a time") as usize];
-    for (column, cell) in table.columns.iter().zip(cells).skip(1) {
-        let rule = plain(&ruled(column, at, second_line));
-        if cell.is_empty() {
-            count.blank += 1;
-        } else if plain(cell) == rule {
-            count.cells += 1;
-        } else if departs(name, line, column, &cells[0], &plain(cell), &rule) {
-            count.departed.push((line, column.clone()));
+/// One table under check.
+struct Check<'a> {
+    name: &'a str,
+    who: &'a str,
+    table: &'a text::Table,
+    shown: &'a [Shown],
+    count: Count,
+    report: &'a mut Report,
+}
+
+impl Check<'_> {
+    fn time(&self, line: usize) -> u32 {
+        ticks(&self.table.lines[line][0]).expect("a time")
+    }
+
+    fn line(&mut self, line: usize) {
+        let table = self.table;
+        let cells = &table.lines[line];
+        let (time, at) = (&cells[0], &self.shown[self.time(line) as usize]);
+        let second_line = line > 0 && table.lines[line - 1][0] == *time;
+        for (column, cell) in table.columns.iter().zip(cells).skip(1) {
+            let rule = plain(&ruled(column, at, second_line));
+            if cell.is_empty() {
+                self.count.blank += 1;
+            } else if plain(cell) == rule {
+                self.count.cells += 1;
+            } else if departs(self.name, line, column, time, &plain(cell), &rule) {
+                self.count.departed.push((line, column.clone()));
+            } else {
+                self.report.fault(format!("{} at {time}: {column} is printed {cell}, {} gives {rule}", self.name, self.who));
+            }
+        }
+    }
+
+    /// Until the next line's time whoever executes on this line keeps the processor.
+    fn span(&mut self, line: usize) {
+        let from = self.time(line);
+        let to = if line + 1 < self.table.lines.len() { self.time(line + 1) } else { from + 1 };
+        let execute = self.table.cell(line, "Execute");
+        for t in from..to {
+            self.occupant(t, execute);
+        }
+        if let Some(budget) = ticks(self.table.cell(line, "Budget")) {
+            self.budgets(from, to, |t| if execute == "JS" { budget.saturating_sub(t - from) } else { budget });
+        }
+    }
+
+    /// Between two lines the budget stays, or falls while the server executes: `at` gives it. At the second line's time it may have fallen
+    /// to what is printed there; if more is printed there, that came by replenishment, after the tick before.
+    fn budgets(&mut self, from: u32, to: u32, at: impl Fn(u32) -> u32) {
+        for t in from..to {
+            let (within, after) = (self.shown[t as usize].budget, self.shown[t as usize].budget_after);
+            if t > from && self.budget(t, "Budget", at(t), within) {
+                self.count.within += 1;
+            }
+            let left = if t + 1 < to { Some(at(t + 1)) } else { self.printed_budget(to).map(|printed| printed.min(at(to))) };
+            if left.is_some_and(|left| self.budget(t, "Budget after the tick", left, after)) {
+                self.count.after += 1;
+            }
+        }
+    }
+
+    /// The budget that is printed for a time, the last one if there are two.
+    fn printed_budget(&self, t: u32) -> Option<u32> {
+        let line = (0..self.table.lines.len()).rfind(|&line| self.time(line) == t)?;
+        ticks(self.table.cell(line, "Budget"))
+    }
+
+    fn occupant(&mut self, t: u32, execute: &str) {
+        let executes = &self.shown[t as usize].execute;
+        if executes == execute {
+            self.count.occupants += 1;
         } else {
-            report.fault(format!("{name} at {}: {column} is printed {cell}, the rules give {rule}", cells[0]));
+            self.report.fault(format!("{} at {}: {execute} should execute, by {} {executes} does", self.name, units(t), self.who));
+        }
+    }
+
+    fn budget(&mut self, t: u32, what: &str, printed: u32, budget: u32) -> bool {
+        if budget != printed {
+            let (t, printed, budget) = (units(t), units(printed), units(budget));
+            self.report.fault(format!("{} at {t}: {what} should be {printed}, {} gives {budget}", self.name, self.who));
+        }
+        budget == printed
+    }
+
+    fn say(&mut self) {
+        let count = &self.count;
+        self.report.say(format!(
+            "document 004, RM + {} server, by {}: {} lines, {} cells agree, {} left blank by the paper, \
+             {} ticks' occupants agree, and {} budgets between lines and {} after a tick",
+            self.name,
+            self.who,
+            self.table.lines.len(),
+            count.cells,
+            count.blank,
+            count.occupants,
+            count.within,
+            count.after
+        ));
+    }
+
+    /// Names each departure, like ones together; one that no longer occurs is a fault.
+    fn say_departures(&mut self) {
+        let mut said: Vec<(String, Vec<&str>)> = Vec::new();
+        for d in DEPARTURES.iter().filter(|d| d.table == self.name) {
+            if !self.count.departed.contains(&(d.line, d.column.to_string())) {
+                self.report.fault(format!("{} at {}: {} no longer departs", self.name, d.time, d.column));
+            }
+            let what = format!("{} printed {}, by the rules {}: {}", d.column, d.printed, d.ruled, d.why);
+            match said.iter_mut().find(|(same, _)| *same == what) {
+                Some((_, times)) => times.push(d.time),
+                None => said.push((what, vec![d.time])),
+            }
+        }
+        for (what, times) in said {
+            self.report.say(format!("  departs at {}: {what}", times.join(", ")));
         }
     }
 }
@@ -184,41 +295,9 @@ fn departs(name: &str, line: usize, column: &str, time: &str, printed: &str, rul
     DEPARTURES.iter().any(same)
 }
 
-/// Until the next line's time, whoever executes on this line keeps the processor.
-fn check_span(name: &str, table: &text::Table, line: usize, shown: &[Shown], count: &mut Count, report: &mut Report) {
-    let cells = &table.lines[line];
-    let from = ticks(&cells[0]).expect("a time");
-    let to = table.lines.get(line + 1).map_or(from + 1, |next| ticks(&next[0]).expect("a time"));
-    let execute = cells.last().expect("a line has cells");
-    for t in from..to {
-        if shown[t as usize].execute == *execute {
-            count.ticks += 1;
-        } else {
-            report.fault(format!("{name} at {}: {execute} should execute, {} does", units(t), shown[t as usize].execute));
-        }
-    }
-}
-
-/// Names each departure, like ones together; one that no longer occurs is a fault.
-fn say_departures(name: &str, count: &Count, report: &mut Report) {
-    let mut said: Vec<(String, Vec<&str>)> = Vec::new();
-    for d in DEPARTURES.iter().filter(|d| d.table == name) {
-        if !count.departed.contains(&(d.line, d.column.to_string())) {
-            report.fault(format!("{name} at {}: {} no longer departs", d.time, d.column));
-        }
-        let what = format!("{} printed {}, by the rules {}: {}", d.column, d.printed, d.ruled, d.why);
-        match said.iter_mut().find(|(same, _)| *same == what) {
-            Some((_, times)) => times.push(d.time),
-            None => said.push((what, vec![d.time])),
-        }
-    }
-    for (what, times) in said {
-        report.say(format!("  departs at {}: {what}", times.join(", ")));
-    }
-}
-
-fn check_responses(expected: &Expected, finished: &[Finish], report: &mut Report) {
-    let ruled: Vec<(u32, u32)> = finished.iter().map(|finish| (finish.id, finish.response)).collect();
+fn check_responses(expected: &Expected, replayed: &[Tick], report: &mut Report) {
+    let finished = replayed.iter().filter_map(|tick| tick.answer.finish);
+    let ruled: Vec<(u32, u32)> = finished.map(|finish| (finish.id, finish.response)).collect();
     let printed: Vec<(u32, u32)> = (1..).zip(expected.responses.map(|units| ticks(units).expect("units"))).collect();
     if ruled == printed {
         report.say(format!("  responses agree: {} units", expected.responses.join(", ")));

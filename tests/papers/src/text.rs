@@ -29,6 +29,14 @@ pub struct Table {
     pub lines: Vec<Vec<String>>,
 }
 
+impl Table {
+    /// The cell of a line, from 0 below the names, in the column of this name.
+    pub fn cell(&self, line: usize, column: &str) -> &str {
+        let place = self.columns.iter().position(|name| name == column).expect("a column of this name");
+        &self.lines[line][place]
+    }
+}
+
 /// A table file: a comment, the columns' names, the lines.
 pub fn table(text: &str) -> Table {
     let cells = |line: &str| line.split('|').map(|cell| cell.trim().to_string()).collect::<Vec<_>>();

@@ -21,7 +21,7 @@ same-length : tie.Need-same-length
 same-length c = search needs
 
 returns-2 : tie.Need-returns-2
-returns-2 c = (omega arith, wrote-same (ap (headText (c .before .before .before .before .before .before .before .args .table .n)) (c .before .before .before .admit .ensures) ∙ sym (has-room headRoom _ 0 _ (omega arith))) (c .before .before .head-lines .ensures .1))
+returns-2 c = (omega arith, wrote-same (ap (headText (c .before .before .before .before .before .before .before .args .table .n)) (c .before .before .before .admit .ensures .0) ∙ sym (has-room headRoom _ 0 _ (omega arith))) (c .before .before .head-lines .ensures .1))
 
 pub head-spec : {M : Type 1} → statement M
 head-spec = tie.close (tie.spec returns admit-requires head-lines-requires same-length returns-2)

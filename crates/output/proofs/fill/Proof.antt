@@ -1,24 +1,27 @@
--- `output::fill` meets its contract. The invariant: what was to be printed at first is what stands in the buffer so far, then what is to
--- be printed from the place reached.
+-- `output::fill` meets its contract. The invariant: some steps from the first place are taken, into the buffer from its start.
 use mathlib.Core.Path.{_≡_, refl}
 use native.Mathlib.Omega.{arith}
-use Prim.Native.Nat.{_+_, _≤_}
+use Prim.Native.Nat.{ℕ, _+_}
 use lib.ListN.{length}
+use Rattle.text.specs.Buffer.{wrote-length}
 use Rattle.output.specs.Rooms.{stepRoom}
-use Rattle.output.proofs.Steps.{Filling, filling-starts, filling-on, filling-stops, tests-hold, test-fails}
-use Rattle.output.specs.Pieces.{stepsLeft}
+use Rattle.output.specs.Steps.{stepsFrom, Taken, none-taken, more-taken}
+use Rattle.output.specs.Rest.{stepsLeft, taken-fewer}
+use Rattle.output.specs.Pieces.{filled}
+use Rattle.output.proofs.Laws.{tests-hold, test-fails}
 use borrow.Author.Needs.{needs}
 use Rattle.output.proofs.fill.Statement.{statement}
 use Rattle.output.proofs.fill.Tie as tie
 
 abbrev Inv-loop : tie.InvT-loop
-Inv-loop plan ticks out₀ n r₀ out r = (r .at ≤ length out₀) × (n ≡ length out₀) × (Filling plan ticks out₀ (r₀ .place) out (r .at) (r .place))
+Inv-loop plan ticks out₀ n r₀ out r =
+    (steps : ℕ) × (n ≡ length out₀) × (Taken (stepsFrom plan ticks steps (r₀ .place)) out₀ 0 out (r .at) (r .place))
 
 abbrev μ-loop : tie.MeasureT-loop
 μ-loop plan ticks out₀ n r₀ out r = stepsLeft plan ticks (r .place)
 
 loop-holds : tie.Need-loop-holds Inv-loop μ-loop
-loop-holds c = (omega arith, refl, filling-starts _ _ _ _)
+loop-holds c = (0, refl, none-taken _ _ _ _)
 
 add-if1 : tie.Need-add-if1 Inv-loop μ-loop
 add-if1 c = search needs
@@ -27,24 +30,28 @@ step-requires : tie.Need-step-requires Inv-loop μ-loop
 step-requires c κs =
     let a = c .before .before .before .before .loop in
     let h = tests-hold (a .r .place .tick) _ (a .r .at + stepRoom) _ (c .before .if1 .taken) in
-    (omega (arith, h .1, a .inv .2 .same), h .0)
+    (omega (arith, h .1, wrote-length (a .inv .2 .wrote)), h .0)
 
 loop-less : tie.Need-loop-less Inv-loop μ-loop
-loop-less c = c .before .before .step .ensures .fewer
+loop-less c =
+    let a = c .before .before .before .before .before .before .before .loop in
+    let h = tests-hold (a .r .place .tick) _ (a .r .at + stepRoom) _ (c .before .before .before .before .if1 .taken) in
+    let s = c .before .before .step .ensures in
+    taken-fewer _ _ (s .steps) (a .r .place) (s .some) (h .0) (s .taken)
 
 loop-again : tie.Need-loop-again Inv-loop μ-loop
 loop-again c =
-    let a = c .before .before .before .before .before .before .before .loop in
+    let inv = c .before .before .before .before .before .before .before .loop .inv in
     let s = c .before .before .step .ensures in
-    (omega (arith, s .ends, a .inv .2 .same), a .inv .1, filling-on _ _ _ _ _ _ _ _ _ _ (a .inv .2) s)
+    (inv .0 + s .steps, inv .1, more-taken _ _ _ (inv .0) (inv .2) s)
 
 same-length : tie.Need-same-length Inv-loop μ-loop
-same-length c = c .before .before .before .loop .inv .2 .same
+same-length c = wrote-length (c .before .before .before .before .before .loop .inv .2 .wrote)
 
 returns : tie.Need-returns Inv-loop μ-loop
 returns c =
-    let a = c .before .before .before .loop in
-    filling-stops _ _ _ _ _ _ _ (a .inv .2) (a .inv .0) (test-fails (a .r .place .tick) _ (a .r .at + stepRoom) _ (c .if1 .left))
+    let a = c .before .before .before .before .before .loop in
+    filled (a .inv .0) (a .inv .2) (test-fails (a .r .place .tick) _ (a .r .at + stepRoom) _ (c .before .before .if1 .left))
 
 pub fill-spec : {M : Type 1} → statement M
 fill-spec =

@@ -1,6 +1,6 @@
 -- `output::first` meets its contract: its parts are what the walk and the fresh state give.
 use Rattle.output.proofs.Laws.{place-same}
-use Rattle.output.specs.Pieces.{firstPlace}
+use Rattle.output.specs.Steps.{firstPlace}
 use borrow.Author.Needs.{needs}
 use Rattle.output.proofs.first.Statement.{statement}
 use Rattle.output.proofs.first.Tie as tie

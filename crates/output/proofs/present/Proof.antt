@@ -22,11 +22,15 @@ same-length : tie.Need-same-length
 same-length c = search needs
 
 returns : tie.Need-returns
-returns c = (
-  omega arith,
-  wrote-same (ap (λ (m : Moved). answerText (c .before .before .before .before .before .before .before .before .before .before .args .p .tick) (c .before .before .before .before .before .before .before .before .before .before .args .a .id) (m .answer)) (c .before .before .before .before .before .before .request .ensures)) (c .before .before .before .answer-line .ensures .1),
-  place-same (c .before .before .before .before .before .before .before .before .before .before .args .p .tick) (c .next-arrival .ensures) (ap (λ (m : Moved). m .state) (c .before .before .before .before .before .before .request .ensures)),
-)
+returns c =
+    let a = c .before .before .before .before .before .before .before .before .before .before .args in
+    let called = c .before .before .before .before .before .before .request .ensures .0 in
+    let line = c .before .before .before .answer-line .ensures in
+    record {
+      place = place-same (a .p .tick) (c .next-arrival .ensures) (ap (λ (m : Moved). m .state) called);
+      wrote = wrote-same (ap (λ (m : Moved). answerText (a .p .tick) (a .a .id) (m .answer)) called) (line .1);
+      fits = omega arith;
+    }
 
 pub present-spec : {M : Type 1} → statement M
 present-spec =

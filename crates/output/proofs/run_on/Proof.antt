@@ -1,8 +1,8 @@
 -- `output::run_on` meets its contract: one tick, or a block.
 use native.Mathlib.Omega.{arith}
 use borrow.Author.Needs.{needs}
-use Rattle.output.specs.Blocks.{ran-tick}
-use Rattle.output.proofs.Steps.{room-free, room-fits}
+use Rattle.output.specs.Steps.{tick-taken}
+use Rattle.output.proofs.Laws.{room-free, room-fits}
 use Rattle.output.proofs.run_on.Statement.{statement}
 use Rattle.output.proofs.run_on.Tie as tie
 
@@ -19,10 +19,9 @@ same-length : tie.Need-same-length
 same-length c = search needs
 
 returns : tie.Need-returns
-returns c =
+returns c = λ bytes.
     let a = c .before .before .before .before .before .before .before .before in
-    let x = c .before .before .run-tick .ensures in
-    ran-tick (a .args .ticks) (a .args .p) _ (a .pre .0) (x .0) (a .pre .1) (a .pre .2) (x .1) (x .2)
+    tick-taken bytes (a .args .ticks) (a .args .p) (a .pre .1) (a .pre .2) (c .before .before .run-tick .ensures)
 
 run-ticks-requires : tie.Need-run-ticks-requires
 run-ticks-requires c κs =
@@ -36,11 +35,11 @@ same-length-2 : tie.Need-same-length-2
 same-length-2 c = search needs
 
 returns-2 : tie.Need-returns-2
-returns-2 c =
+returns-2 c = λ bytes.
     let a = c .before .before .before .before .before .before .before .before in
     let k = c .before .before .before .before .before .before .free-ticks in
     let j = c .before .before .before .before .before .with-room in
-    c .before .before .run-ticks .ensures (a .args .ticks) (room-free (a .args .ticks) (a .args .p) (k .result) (j .result) _ (a .args .at) (omega arith) (k .ensures) (j .ensures))
+    c .before .before .run-ticks .ensures bytes (a .args .ticks) (room-free (a .args .ticks) (a .args .p) (k .result) (j .result) _ (a .args .at) (omega arith) (k .ensures) (j .ensures))
 
 pub run-on-spec : {M : Type 1} → statement M
 run-on-spec =

@@ -23,11 +23,15 @@ same-length : tie.Need-same-length
 same-length c = search needs
 
 returns : tie.Need-returns
-returns c = (
-  omega arith,
-  wrote-same (ap (λ (x : Ticked). tickText (c .before .before .before .before .before .before .before .before .before .args .p .tick) (x .answer)) (c .before .before .before .before .before .before .tick .ensures)) (c .before .before .before .tick-lines .ensures .1),
-  place-same (c .before .before .before .before .before .before .before .before .before .args .p .tick + 1) refl (ap (λ (x : Ticked). x .state) (c .before .before .before .before .before .before .tick .ensures)),
-)
+returns c =
+    let p = c .before .before .before .before .before .before .before .before .before .args .p in
+    let called = c .before .before .before .before .before .before .tick .ensures .0 in
+    let lines = c .before .before .before .tick-lines .ensures in
+    record {
+      place = place-same (p .tick + 1) refl (ap (λ (x : Ticked). x .state) called);
+      wrote = wrote-same (ap (λ (x : Ticked). tickText (p .tick) (x .answer)) called) (lines .1);
+      fits = omega arith;
+    }
 
 pub run-tick-spec : {M : Type 1} → statement M
 run-tick-spec = tie.close (tie.spec tick-requires tick-lines-requires add-t12 same-length returns)

@@ -4,7 +4,8 @@ use mathlib.Core.Path.{refl}
 use lib.ListN.{length-map}
 use borrow.Author.Needs.{needs}
 use Rattle.rules.specs.Laws.{Sized}
-use Rattle.output.specs.Blocks.{ran-tick, ran-block, free-not-due}
+use Rattle.output.specs.Steps.{tick-taken}
+use Rattle.output.specs.Blocks.{block-taken, free-not-due}
 use Rattle.output.proofs.run_ticks.Statement.{statement}
 use Rattle.output.proofs.run_ticks.Tie as tie
 
@@ -40,20 +41,20 @@ sized a =
     }
 
 returns : tie.Need-returns
-returns c = λ ticks free.
+returns c = λ bytes ticks free.
     let a = c .before .before .before .before .before .before .before .before .before .before .before .before in
     let b = c .before .before .before .before .before .before .before .before .before .run-block in
     let lines = c .before .before .before .block-lines .ensures in
-    ran-block ticks (a .args .p) _ (a .args .k) (b .result) (a .pre .0) (a .pre .3) (lines .0) free (sized a) (b .ensures) (c .before .before .before .before .before .before .before .enum-told .given .1) (lines .1) refl
+    block-taken bytes ticks (a .args .p) _ (a .args .k) (b .result) (a .pre .0) (a .pre .3) (lines .0) free (sized a) (b .ensures .0) (c .before .before .before .before .before .before .before .enum-told .given .1) (lines .1) refl
 
 same-length-2 : tie.Need-same-length-2
 same-length-2 c = search needs
 
 returns-2 : tie.Need-returns-2
-returns-2 c = λ ticks free.
+returns-2 c = λ bytes ticks free.
     let a = c .before .before .before .before .before .before .before .before .before in
     let x = c .before .before .run-tick .ensures in
-    ran-tick ticks (a .args .p) _ (omega (arith, a .pre .3)) (x .0) (omega (arith, free .ends, a .pre .0)) (free-not-due ticks (a .args .p) (a .args .k) (a .pre .0) free) (x .1) (x .2)
+    tick-taken bytes ticks (a .args .p) (omega (arith, free .ends, a .pre .0)) (free-not-due ticks (a .args .p) (a .args .k) (a .pre .0) free) x
 
 pub run-ticks-spec : {M : Type 1} → statement M
 run-ticks-spec =

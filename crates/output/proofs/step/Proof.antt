@@ -1,7 +1,7 @@
 -- `output::step` meets its contract: an A line that is due, or ticks.
-use mathlib.Core.Path.{sym, subst}
 use borrow.Author.Needs.{needs}
-use Rattle.output.proofs.Steps.{step-arrival, step-ran, later-found, later-done}
+use Rattle.output.specs.Steps.{presented-taken}
+use Rattle.output.proofs.Laws.{later-found, later-done}
 use Rattle.output.proofs.step.Statement.{statement}
 use Rattle.output.proofs.step.Tie as tie
 
@@ -30,20 +30,19 @@ same-length c = search needs
 returns : tie.Need-returns
 returns c =
     let a = c .before .before .before .before .before .before .before .before .before .before .before .before in
-    let x = c .before .before .present .ensures in
-    step-arrival _ _ (a .args .p) _ (a .pre .0) (a .pre .1) (x .0) _ _ (c .before .before .before .before .before .before .before .before .next .given .1) (c .before .before .before .before .if1 .taken) (x .1) (x .2)
+    presented-taken _ _ (a .args .p) (a .pre .1) _ _ (c .before .before .before .before .before .before .before .before .next .given .1) (c .before .before .before .before .if1 .taken) (c .before .before .present .ensures)
 
 same-length-2 : tie.Need-same-length-2
 same-length-2 c = search needs
 
 returns-2 : tie.Need-returns-2
-returns-2 c = step-ran _ _ _ _ (c .before .before .run-on .ensures)
+returns-2 c = c .before .before .run-on .ensures _
 
 same-length-3 : tie.Need-same-length-3
 same-length-3 c = search needs
 
 returns-3 : tie.Need-returns-3
-returns-3 c = step-ran _ _ _ _ (c .before .before .run-on2 .ensures)
+returns-3 c = c .before .before .run-on2 .ensures _
 
 pub step-spec : {M : Type 1} → statement M
 step-spec =

@@ -1,6 +1,7 @@
 -- `plan::check` meets its contract. The invariant: what is left of the text, from the reading and the line so far, gives the plan that
 -- the whole text is.
 use Rattle.fields.specs.Text.{split}
+use Rattle.plan.specs.Figures.{plan-says}
 use Rattle.plan.specs.Plan.{maxBytes, planOf, reads}
 use Rattle.plan.proofs.Steps.{too-big, first-line, no-more, unclosed, stops, goes}
 use lib.ListN.{length, drop}
@@ -21,7 +22,7 @@ refuse-requires : tie.Need-refuse-requires Inv-loop μ-loop
 refuse-requires c κs = search needs
 
 returns : tie.Need-returns Inv-loop μ-loop
-returns c = too-big _ _ (c .before .if1 .taken) (c .refuse .ensures)
+returns c = plan-says _ _ (too-big _ _ (c .before .if1 .taken) (c .refuse .ensures))
 
 begin-requires : tie.Need-begin-requires Inv-loop μ-loop
 begin-requires c κs = search needs
@@ -38,7 +39,7 @@ refuse-requires-2 c κs = search needs
 returns-2 : tie.Need-returns-2 Inv-loop μ-loop
 returns-2 c =
     let a = c .before .before .before .before .loop in
-    sym (a .inv .4 ∙ unclosed _ _ _ _ _ (a .inv .1) _ (c .before .before .before .loop-test .taken) (c .before .before .find .ensures) (c .before .if2 .taken) _ (c .refuse2 .ensures))
+    plan-says _ _ (sym (a .inv .4 ∙ unclosed _ _ _ _ _ (a .inv .1) _ (c .before .before .before .loop-test .taken) (c .before .before .find .ensures) (c .before .if2 .taken) _ (c .refuse2 .ensures)))
 
 sub-parse : tie.Need-sub-parse Inv-loop μ-loop
 sub-parse c = search needs
@@ -64,7 +65,7 @@ refuse-requires-3 c κs = search needs
 returns-3 : tie.Need-returns-3 Inv-loop μ-loop
 returns-3 c =
     let a = c .before .before .before .before .before .before .before .before .before .before .loop in
-    sym (a .inv .4 ∙ stops _ _ _ _ _ (a .inv .1) _ (c .before .before .before .before .before .before .before .before .before .loop-test .taken) (c .before .before .before .before .before .before .before .before .find .ensures) (c .before .before .before .before .before .before .before .if2 .left) _ (c .before .before .before .before .before .parse .ensures) _ (c .before .before .before .before .judge .ensures) _ (c .before .before .k .given .1) _ (c .refuse3 .ensures))
+    plan-says _ _ (sym (a .inv .4 ∙ stops _ _ _ _ _ (a .inv .1) _ (c .before .before .before .before .before .before .before .before .before .loop-test .taken) (c .before .before .before .before .before .before .before .before .find .ensures) (c .before .before .before .before .before .before .before .if2 .left) _ (c .before .before .before .before .before .parse .ensures) _ (c .before .before .before .before .judge .ensures) _ (c .before .before .k .given .1) _ (c .refuse3 .ensures)))
 
 enum-told : tie.Need-enum-told Inv-loop μ-loop
 enum-told c = search needs
@@ -95,7 +96,7 @@ finish-requires : tie.Need-finish-requires Inv-loop μ-loop
 finish-requires c κs = search needs
 
 returns-4 : tie.Need-returns-4 Inv-loop μ-loop
-returns-4 c = sym (c .before .before .loop .inv .4 ∙ no-more _ _ _ _ _ (c .before .before .loop .inv .1) (c .before .loop-test .left) _ (c .finish .ensures))
+returns-4 c = plan-says _ _ (sym (c .before .before .loop .inv .4 ∙ no-more _ _ _ _ _ (c .before .before .loop .inv .1) (c .before .loop-test .left) _ (c .finish .ensures)))
 
 pub check-spec : {M : Type 1} → statement M
 check-spec =

@@ -26,11 +26,11 @@ refuse-requires-2 c κs = search needs
 
 returns-2 : tie.Need-returns-2
 unfolding tabled acceptedPlan
-returns-2 c = closed (c .before .before .before .before .before .before .args .st) _ _ (c .before .before .before .before .if1 .left) _ _ (c .before .before .check .ensures) (c .enum-told .given .1) refl
+returns-2 c = closed (c .before .before .before .before .before .before .args .st) _ _ (c .before .before .before .before .if1 .left) _ _ (c .before .before .check .ensures .0) (c .enum-told .given .1) refl
 
 returns-3 : tie.Need-returns-3
 unfolding tabled
-returns-3 c = closed (c .before .before .before .before .before .before .before .before .args .st) _ _ (c .before .before .before .before .before .before .if1 .left) _ _ (c .before .before .before .before .check .ensures) (c .before .before .r .given .1) (c .refuse2 .ensures)
+returns-3 c = closed (c .before .before .before .before .before .before .before .before .args .st) _ _ (c .before .before .before .before .before .before .if1 .left) _ _ (c .before .before .before .before .check .ensures .0) (c .before .before .r .given .1) (c .refuse2 .ensures)
 
 pub finish-spec : {M : Type 1} → statement M
 finish-spec =

@@ -5,7 +5,8 @@ use native.Mathlib.Omega.{arith}
 use lib.ListN.{length}
 use borrow.Author.Needs.{needs}
 use Rattle.heading.specs.Rooms.{headRoom}
-use Rattle.output.specs.Pieces.{stepsLeft}
+use Rattle.output.specs.Rest.{stepsLeft}
+use Rattle.output.specs.Pieces.{filled-length, filled-fewer}
 use Rattle.schedule.proofs.run.Statement.{statement}
 use Rattle.schedule.proofs.run.Tie as tie
 
@@ -37,7 +38,9 @@ fill-requires : tie.Need-fill-requires Inv-loop μ-loop
 fill-requires c κs = search needs
 
 write-out-requires-2 : tie.Need-write-out-requires-2 Inv-loop μ-loop
-write-out-requires-2 c κs = omega (arith, c .before .before .before .fill .ensures .fits, c .before .before .before .fill .ensures .same)
+write-out-requires-2 c κs =
+    let f = c .before .before .before .fill .ensures in
+    omega (arith, f .taken .fits, filled-length f)
 
 same-length-2 : tie.Need-same-length-2 Inv-loop μ-loop
 same-length-2 c = search needs
@@ -46,7 +49,7 @@ returns-2 : tie.Need-returns-2 Inv-loop μ-loop
 returns-2 c = search needs
 
 loop-less : tie.Need-loop-less Inv-loop μ-loop
-loop-less c = c .before .before .before .before .before .before .fill .ensures .fewer (c .before .before .before .before .before .before .before .before .if2 .taken) (omega arith)
+loop-less c = filled-fewer (c .before .before .before .before .before .before .fill .ensures) (c .before .before .before .before .before .before .before .before .if2 .taken) (omega arith)
 
 loop-again : tie.Need-loop-again Inv-loop μ-loop
 loop-again c = search needs

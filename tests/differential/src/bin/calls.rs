@@ -7,11 +7,11 @@ use std::fs;
 use std::process::exit;
 use std::time::{Instant, SystemTime, UNIX_EPOCH};
 
-use differential::abi::{linked, Calls};
+use differential::abi::Calls;
 use differential::call::{compare, random_call, shrink, table_call, Call};
-use differential::open::open;
+use differential::open::find;
 use differential::random::Random;
-use differential::{standin, state};
+use differential::state;
 use second::State;
 
 const FOLDER: &str = "target/differential";
@@ -44,14 +44,6 @@ fn main() {
 
 fn clock_seed() -> u64 {
     SystemTime::now().duration_since(UNIX_EPOCH).map_or(1, |since| since.as_secs())
-}
-
-fn find(library: &str) -> Option<Calls> {
-    match library {
-        "linked" => linked(),
-        "second" => Some(standin::CALLS),
-        path => open(path),
-    }
 }
 
 /// One list of calls from a fresh, a fit, an edge or an unfit state; each call starts where the last one ended.

@@ -12,7 +12,7 @@ use Rattle.queue.specs.Queue.{maxWaiting, workFits, FinishFigures, finishFigure
 use Rattle.table.specs.declared.State.{State}
 use Rattle.table.specs.declared.Refusal.{Refusal}
 use Rattle.table.specs.declared.Checked.{Checked}
-use Rattle.table.specs.Refusal.{number, Figures, figures, ground, noGround}
+use Rattle.table.specs.Refusal.{number, value, Figures, figures, groundWith, ground, noGround}
 use Rattle.table.specs.State.{fit}
 use Rattle.rules.specs.declared.TickAnswer.{TickAnswer}
 use Rattle.rules.specs.declared.Entry.{Entry}
@@ -67,32 +67,31 @@ tickFigures s =
     (ranFigures (ticked s)))
 
 -- ---- the calls' answers say these figures
+unless-says : (ok : Bool) (r : Refusal) (later : Checked) → figures (unless ok r later) ≡ groundWith (not ok) (number r) (value r) (figures later)
+unless-says true r later = refl
+unless-says false r later = refl
+
 pub request-figures : (s : State) (work : ℕ) → figures (requestCheck s work) ≡ requestFigures s work
 request-figures s work =
-    by (fit s) (workFits work) (ltb (s .queue .n) maxWaiting)
-    ∙ ap (λ (full : Bool). ground (not (fit s)) 11 (ground (not (workFits work)) 4 (ground full 5 noGround))) (sym (at-least (s .queue .n) maxWaiting))
-  where
-    by : (f w q : Bool) →
-        figures (unless f Refusal.UnfitState (unless w Refusal.BadWork (unless q Refusal.QueueFull Checked.Passed))) ≡
-        ground (not f) 11 (ground (not w) 4 (ground (not q) 5 noGround))
-    by false w q = refl
-    by true false q = refl
-    by true true false = refl
-    by true true true = refl
+    unless-says (fit s) Refusal.UnfitState _
+    ∙ ap (ground (not (fit s)) 11)
+    (unless-says (workFits work) Refusal.BadWork _
+    ∙ ap (ground (not (workFits work)) 4)
+    (unless-says (ltb (s .queue .n) maxWaiting) Refusal.QueueFull Checked.Passed
+    ∙ ap (λ (full : Bool). ground full 5 noGround) (sym (at-least (s .queue .n) maxWaiting))))
 
 pub run-figures : (s : State) (k lent : ℕ) → figures (runCheck s k lent) ≡ runFigures s k lent
 run-figures s k lent =
-    by (fit s) (clockAllows s k) (leb k lent)
-    ∙ ap (λ (spent : Bool). ground (not (fit s)) 11 (ground spent 6 (ground (not (leb k lent)) 10 noGround))) (sym (above (s .progress .clock + k) lastClock))
-    ∙ ap (λ (short : Bool). ground (not (fit s)) 11 (ground (clockPassed s k) 6 (ground short 10 noGround))) (sym (above k lent))
+    unless-says (fit s) Refusal.UnfitState _
+    ∙ ap (ground (not (fit s)) 11)
+    (unless-says (clockAllows s k) Refusal.ClockSpent _
+    ∙ (λ j. ground (spent j) 6 (short j)))
   where
-    by : (f c l : Bool) →
-        figures (unless f Refusal.UnfitState (unless c Refusal.ClockSpent (unless l Refusal.ShortRecord Checked.Passed))) ≡
-        ground (not f) 11 (ground (not c) 6 (ground (not l) 10 noGround))
-    by false c l = refl
-    by true false l = refl
-    by true true false = refl
-    by true true true = refl
+    spent : not (clockAllows s k) ≡ clockPassed s k
+    spent = sym (above (s .progress .clock + k) lastClock)
+
+    short : figures (unless (leb k lent) Refusal.ShortRecord Checked.Passed) ≡ ground (ltb lent k) 10 noGround
+    short = unless-says (leb k lent) Refusal.ShortRecord Checked.Passed ∙ ap (λ (b : Bool). ground b 10 noGround) (sym (above k lent))
 
 pub tick-figures : (s : State) → answerFigures (tickCall s .answer) ≡ tickFigures s
 tick-figures s =

@@ -1,5 +1,4 @@
 -- Each answer as C reads it: document 01's figures (table/specs/Refusal, rules/specs/Figures) as numbers, with the state beside them.
-use Prim.Native.Nat.{ℕ}
 use Rattle.lists.specs.Numbers.{bitOf}
 use Rattle.queue.specs.declared.Finish.{Finish}
 use Rattle.queue.specs.Queue.{FinishFigures, finishFigures}

@@ -31,7 +31,7 @@ use Rattle.play.specs.declared.Made.{Made}
 use Rattle.play.specs.declared.Report.{Report}
 use Rattle.play.specs.Numbers.{callOf, callsOf}
 use Rattle.play.specs.Report.{dropsIn, made, reported}
-use Rattle.play.specs.Laws.{recorded, madeBy, made-one, made-more, entry-drops, run-writes, run-records, moves}
+use Rattle.play.specs.Laws.{recorded, madeBy, made-one, made-more, run-writes, run-records, moves}
 use Rattle.play.specs.Promise.{Promise, promise}
 
 -- calls that lead to s and have so many ticks and drops
@@ -64,7 +64,7 @@ module _ (s : State) (x : Ticked) (e : x ≡ tickCall s) where
   pub tick-ran : (o : Occupant) (d : ℕ) (f : Finish) (w : ℕ) → x .answer ≡ TickAnswer.Ran o d f → w ≡ d →
       madeAt (x .state) 1 w ≡ made s (tick ∷ [])
   tick-ran o d f w a q =
-      let same : w ≡ dropsIn (entryBy o d ∷ []) = omega (arith, entry-drops o d) in
+      let same : w ≡ dropsIn (entryBy o d ∷ []) = omega arith in
       counted (x .state) refl same ∙ tick-made (entryBy o d ∷ []) (rw a)
 
   pub tick-refused : (r : Refusal) → x .answer ≡ TickAnswer.Refused r → madeBy (x .state) [] ≡ made s (tick ∷ [])

@@ -20,9 +20,8 @@ use Rattle.table.specs.Model.{modelOf, written}
 use Rattle.table.specs.State.{fit}
 use Rattle.table.specs.Facts.{fit-facts, table-facts}
 use Rattle.rules.specs.declared.Entry.{Entry}
-use Rattle.rules.specs.declared.Occupant.{Occupant}
 use Rattle.rules.specs.Tick.{expires}
-use Rattle.rules.specs.Calls.{unless, requestCheck, asked, clockAllows, ticked, stateAfter, tickBy, entryBy, entryOf, runCheck, runState, runEntries, runList}
+use Rattle.rules.specs.Calls.{unless, requestCheck, asked, clockAllows, ticked, stateAfter, tickBy, entryOf, runCheck, runState, runEntries, runList}
 use Rattle.scheduler.specs.Laws.{run-length}
 use Rattle.guarantee.specs.Calls.{Call, request, tick, run, after, final, Event, accepted, ran, tickEvents, runFinishes, happens, events, finishes, ticksFrom}
 use Rattle.play.specs.declared.Made.{Made}
@@ -104,16 +103,10 @@ count-few f (x ∷ xs) (y ∷ ys) = go (f x y) (count-few f xs ys)
     go true h = omega arith
     go false h = omega arith
 
-pub entry-drops : (o : Occupant) (d : ℕ) → entryBy o d .drops ≡ d
-entry-drops Occupant.Idle d = refl
-entry-drops (Occupant.Task i) d = refl
-entry-drops (Occupant.Request i) d = refl
-
 tick-few : (s : State) → entryOf (ticked s) .drops ≤ s .table .n
 tick-few s =
     omega (
       arith,
-      entry-drops (ticked s .occupant) (ticked s .drops),
       count-few (expires (s .progress .clock)) (take (s .table .n) (s .table .tasks)) (take (s .table .n) (s .progress .left)),
       length-take (s .table .n) (s .table .tasks),
     )

@@ -2,7 +2,7 @@
 -- ticks say.
 use Prim.Native.Nat.{ℕ, _+_, _≤_}
 use native.Mathlib.Omega.{arith}
-use mathlib.Core.Path.{_≡_, refl, sym, ap, _∙_}
+use mathlib.Core.Path.{_≡_, sym, ap, _∙_}
 use mathlib.Core.List.{List}
 use lib.ListN.{length, take}
 use Rattle.table.specs.declared.Table.{Table}
@@ -10,10 +10,8 @@ use Rattle.table.specs.Limits.{maxTasks}
 use Rattle.table.specs.Model.{TaskSet, Model, taskSetOf}
 use Rattle.bounds.specs.Demand.{ownBound}
 use Rattle.bounds.specs.Bounds.{OwnBound}
-use Rattle.rules.specs.declared.Occupant.{Occupant}
 use Rattle.rules.specs.declared.Entry.{Entry}
-use Rattle.rules.specs.Tick.{kindAt, Tick, tick}
-use Rattle.rules.specs.Calls.{entryBy, entryOf}
+use Rattle.rules.specs.Tick.{kindAt}
 use Rattle.guarantee.specs.Calls.{Call, clockAfter, byTask, byRequest}
 use Rattle.guarantee.specs.Guarantee.{boundAt, Guarantee}
 use Rattle.guarantee.specs.Proof.Items.{server, itemsDemand}
@@ -24,14 +22,6 @@ use Rattle.guarantee.specs.Proof.Period.{exactly}
 use Rattle.guarantee.specs.Proof.Admitted.{Good}
 use Rattle.guarantee.specs.Proof.Played.{begins, modelAt, played}
 use Rattle.guarantee.specs.Proof.Reports.{ticks-long, clock-after, entry-is, counted, backlog}
-
-entry-drops : (x : Tick) → entryOf x .drops ≡ x .drops
-entry-drops x = go (x .occupant)
-  where
-    go : (o : Occupant) → entryBy o (x .drops) .drops ≡ x .drops
-    go Occupant.Idle = refl
-    go (Occupant.Task i) = refl
-    go (Occupant.Request i) = refl
 
 module _ (t : Table) (g : Good t) (calls : List Call) where
   abbrev few : t .n ≤ maxTasks
@@ -54,7 +44,7 @@ module _ (t : Table) (g : Good t) (calls : List Call) where
   kept = record {
     numbered = ticks-long t few calls ∙ sym clock;
     nodrop = λ u h.
-        ap (λ (x : Entry). x .drops) (entry-is t few calls u (omega (arith, clock))) ∙ entry-drops (tick p (m u))
+        ap (λ (x : Entry). x .drops) (entry-is t few calls u (omega (arith, clock)))
         ∙ no-drop p m N (played t few calls) (g .sound) (g .mix) (λ i b. (boundAt t i, g .tasks i b)) u (omega (arith, clock));
     whole = λ i r b e h.
         omega (

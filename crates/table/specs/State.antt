@@ -1,6 +1,6 @@
 -- The fresh state, the fit state (refusal 11) and set-up.
 use Prim.Native.Nat.{ℕ}
-use mathlib.Core.Bool.{Bool, not, _&&_}
+use mathlib.Core.Bool.{Bool, true, false, not, _&&_}
 use lib.ListN.{length, replicate}
 use lib.Dec.{leb, ltb}
 use Rattle.lists.specs.Lists.{allWith}

@@ -9,7 +9,7 @@ use Rattle.text.specs.Buffer.{front, wrote-length}
 use Rattle.output.specs.Rooms.{stepRoom}
 use Rattle.output.specs.declared.Place.{Place}
 use Rattle.output.specs.Output.{ticksText}
-use Rattle.output.specs.Steps.{stepsFrom, Taken}
+use Rattle.output.specs.Steps.{stepsFrom, Taken, one-end}
 use Rattle.output.specs.Rest.{textFrom, stepsLeft, steps-print, taken-fewer}
 
 -- A filled buffer. How many steps one call takes is left free, and nothing else: they are taken from p on, into the buffer from its start,
@@ -47,6 +47,17 @@ module _ {bytes : List ℕ} {ticks : ℕ} {l : List ℕ} {p : Place} {m : List �
     -- if a step fits at all, fewer are left
     pub filled-fewer : p .tick < ticks → stepRoom ≤ length l → stepsLeft bytes ticks q < stepsLeft bytes ticks p
     filled-fewer early room = taken-fewer bytes ticks (f .steps) p (f .some early room) early (f .taken)
+
+-- where no tick is left, it is one place that is handed back, however many steps were taken and whatever the buffer was
+pub filled-end :
+    {bytes : List ℕ} {ticks : ℕ} {l m o n : List ℕ} {r z : ℕ} {p q v : Place} → Filled bytes ticks l p m r q → Filled bytes ticks o p n z v →
+    ticks ≤ q .tick → ticks ≤ v .tick → q ≡ v
+filled-end {bytes} {ticks} {p = p} f g h k =
+    f .taken .place
+    ∙ one-end bytes ticks (f .steps) (g .steps) p
+    (omega (arith, ap (λ (x : Place). x .tick) (f .taken .place)))
+    (omega (arith, ap (λ (x : Place). x .tick) (g .taken .place)))
+    ∙ sym (g .taken .place)
 
 -- what stands in buffers that are filled one after the other, from a place up to the last tick
 pub data Fills (bytes : List ℕ) (ticks : ℕ) : Place → List (List ℕ) → Type 0 where

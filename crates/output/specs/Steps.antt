@@ -142,6 +142,22 @@ module _ (bytes : List ℕ) (ticks : ℕ) where
       ∙ ap (andThen s) (more-steps n k (s .place))
       ∙ ap (λ (x : List ℕ). record { place = g .place; text = x }) (sym (append-assoc (s .text) (f .text) (g .text)))
 
+  -- where no tick is left, further steps change nothing; so whatever number of steps leads to such a place, it is one place
+  steps-none : (n : ℕ) (p : Place) → ticks ≤ p .tick → stepsFrom bytes ticks n p .place ≡ p
+  unfolding stepsFrom
+  steps-none zero p h = refl
+  steps-none (suc n) p h = ap (λ (s : Step). stepsFrom bytes ticks n (s .place) .place) (step-none bytes ticks p h) ∙ steps-none n p h
+
+  steps-end : (n k : ℕ) (p : Place) → ticks ≤ stepsFrom bytes ticks n p .place .tick → stepsFrom bytes ticks (n + k) p .place ≡ stepsFrom bytes ticks n p .place
+  steps-end n k p h = ap (λ (s : Step). s .place) (more-steps n k p) ∙ steps-none k (stepsFrom bytes ticks n p .place) h
+
+  pub one-end :
+      (n k : ℕ) (p : Place) → ticks ≤ stepsFrom bytes ticks n p .place .tick → ticks ≤ stepsFrom bytes ticks k p .place .tick →
+      stepsFrom bytes ticks n p .place ≡ stepsFrom bytes ticks k p .place
+  one-end n k p h g =
+      let e : n + k ≡ k + n = omega arith in
+      sym (steps-end n k p h) ∙ ap (λ (j : ℕ). stepsFrom bytes ticks j p .place) e ∙ steps-end k n p g
+
 -- ---- steps that are taken
 pub taken-same : {s t : Step} {l m : List ℕ} {at r : ℕ} {q : Place} → s ≡ t → Taken s l at m r q → Taken t l at m r q
 taken-same {s} {t} {l} {m} {at} {r} {q} e h = subst (λ (x : Step). Taken x l at m r q) e h

@@ -309,16 +309,5 @@ pub fn fill(plan: &[u8], ticks: u32, out: &mut [u8], p: Place) -> Printed
     while (r.place.tick < ticks) & (r.at + STEP_ROOM <= n) {
         r = step(plan, ticks, out, r.at, r.place);
     }
-    // What is handed back is the place that the steps reached: its tick, its next A line and its state.
-    let reached = r.place;
-    let next = reached.next;
-    let state = reached.state;
-    Printed {
-        place: Place {
-            tick: reached.tick,
-            next,
-            state,
-        },
-        at: r.at,
-    }
+    r
 }

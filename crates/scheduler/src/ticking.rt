@@ -70,7 +70,6 @@ pub fn run_tick(state: State) -> Ticked
     let occupant = occupant_of(turn, head.id);
     if to_request(turn) {
         let finish = finish_of(progress.clock, queue);
-        let served = queue.serve();
         return Ticked {
             answer: TickAnswer::Ran {
                 occupant,
@@ -80,7 +79,7 @@ pub fn run_tick(state: State) -> Ticked
             state: State {
                 table,
                 progress: next,
-                queue: served,
+                queue: queue.serve(),
             },
         };
     }

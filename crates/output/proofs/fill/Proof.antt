@@ -46,12 +46,12 @@ loop-again c =
     (inv .0 + s .steps, inv .1, more-taken _ _ _ (inv .0) (inv .2) s)
 
 same-length : tie.Need-same-length Inv-loop μ-loop
-same-length c = wrote-length (c .before .before .before .before .before .loop .inv .2 .wrote)
+same-length c = wrote-length (c .before .before .before .loop .inv .2 .wrote)
 
 returns : tie.Need-returns Inv-loop μ-loop
 returns c =
-    let a = c .before .before .before .before .before .loop in
-    filled (a .inv .0) (a .inv .2) (test-fails (a .r .place .tick) _ (a .r .at + stepRoom) _ (c .before .before .if1 .left))
+    let a = c .before .before .before .loop in
+    filled (a .inv .0) (a .inv .2) (test-fails (a .r .place .tick) _ (a .r .at + stepRoom) _ (c .if1 .left))
 
 pub fill-spec : {M : Type 1} → statement M
 fill-spec =

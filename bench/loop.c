@@ -1,5 +1,7 @@
 /* The inner loop of a run as one would write it in C: the state by pointer, changed in place, no check of fitness. Only for bench/run, which
  * compares its entries and its last state with the library's. */
+#include <stdbool.h>
+
 #include "pilqandur.h"
 
 static bool due(uint32_t t, uint32_t start, uint32_t period)

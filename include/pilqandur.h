@@ -1,15 +1,25 @@
 /* Pilqandur: a tick scheduler and its admission bounds, as static library target/staticlib/libcapi.a (`rt staticlib capi`).
  *
- * Every function below is proved to give, for every input, what document 01's rules give: the number of the answer, the next state, the
- * bounds, the entries of a run. (crates/capi: the contracts; crates/rules/specs: the rules.) What the proofs take from this header's side:
+ * Every function of the library is proved to give, for every value of its arguments, what document 01's rules give: the number of the answer,
+ * the next state, the bounds, the entries of a run. (crates/capi: the contracts; crates/rules/specs: the rules; docs/MANUAL.md: the rules in
+ * plain words, and what to do about each number.)
  *
+ * What the caller has to see to:
+ *
+ *  - Outside the contract is one thing alone: a pointer that points to less than it says. `entries` points to `len` entries that nobody else
+ *    reads or writes during the call. A list of no entries may be NULL: pilqandur_run(state, 0, NULL, 0) is a run of no ticks. The states and the
+ *    table of the inline forms below are pointed to, not NULL.
+ *  - Header and archive belong together: pilqandur_version() is PILQANDUR_VERSION. Ask once at the start, and again of a stored state.
  *  - The caller's compiler and the library agree on the x86-64 System V calling convention, and the caller passes structs laid out as
  *    declared here. This is tested, not proved: tests/link compares the sizes and offsets of this header with those of the Rust
  *    declarations and runs a caller of each language; tests/run-calls compares every field of random states that went through the archive.
- *  - A bool holds 0 or 1. Another byte in `served`, `late`, `above` or `busy` is outside the contract: the states that these functions
- *    return hold 0 or 1, and a state made by hand or read from outside has to.
- *  - `entries` points to `len` entries that nobody else reads or writes during the call. It is not NULL and is aligned as an entry is, even if
- *    len is 0.
+ *
+ * A state can be kept, copied, stored and taken up again later: it is numbers alone, without pointers. Every pattern of bits is taken: a state
+ * that breaks its limits, one with a flag that is neither 0 nor 1 among them, is refused with 11 and handed back as it came. But 11 is no
+ * checksum: a state in which an id or a work was changed is still a state, and is run as one. Keep a checksum beside a stored state
+ * (examples/c/saved.c does).
+ *
+ * A run does not report what finished: make ticks one by one where the responses are wanted.
  *
  * No function keeps anything between calls, allocates or does input or output: the archive has no data of its own, and wants only memcpy, memmove
  * and memset of the C library. State goes in by value and comes back by value: two schedulers are two states.
@@ -17,7 +27,6 @@
 #ifndef PILQANDUR_H
 #define PILQANDUR_H
 
-#include <stdbool.h>
 #include <stddef.h>
 #include <stdint.h>
 
@@ -25,12 +34,23 @@
 extern "C" {
 #endif
 
-/* The limits. Times are in ticks. */
+/* The number of this header. It rises with every change of a struct, a number or a meaning. */
+#define PILQANDUR_VERSION 1u
+
+/* The limits. Times are in ticks of 10 ms. */
 #define PILQANDUR_MAX_TASKS 16
 #define PILQANDUR_MAX_WAITING 64
 #define PILQANDUR_MAX_TIME 60000u        /* of a phase, a period, an execution, a deadline */
 #define PILQANDUR_MAX_WORK 60000u        /* of a request */
 #define PILQANDUR_LAST_CLOCK 4000000000u /* at it no tick runs */
+
+/* Stack, in bytes: what each call takes at most, whatever its arguments, read off the machine code and measured beside it by `tools/stack`. What memcpy
+ * takes comes to it (8 bytes were seen), and in the caller's frame the arguments and the result by value: a table is 276 bytes, a state 1,148. */
+#define PILQANDUR_STACK_SET_UP 656
+#define PILQANDUR_STACK_ADMIT 1360
+#define PILQANDUR_STACK_REQUEST 5376
+#define PILQANDUR_STACK_TICK 5616
+#define PILQANDUR_STACK_RUN 5232
 
 /* Kinds of a server. */
 #define PILQANDUR_BACKGROUND 0u
@@ -38,18 +58,26 @@ extern "C" {
 #define PILQANDUR_DEFERRABLE 2u
 #define PILQANDUR_SPORADIC 3u
 
+/* Kinds of an entry: who has the tick. */
+#define PILQANDUR_IDLE 0u
+#define PILQANDUR_TASK 1u
+#define PILQANDUR_REQUEST 2u
+
 /* Refusals, in `number`; 0 says that the call was carried out. A refused call hands back the state it was given. */
 #define PILQANDUR_DONE 0u
-#define PILQANDUR_TASK_COUNT 1u  /* no task, or more than 16 */
-#define PILQANDUR_BAD_TASK 2u    /* a task breaks its limits; `index` is the first such */
-#define PILQANDUR_BAD_SERVER 3u  /* the server breaks its limits */
-#define PILQANDUR_BAD_WORK 4u    /* work 0 or above 60,000 */
-#define PILQANDUR_QUEUE_FULL 5u  /* 64 wait */
-#define PILQANDUR_CLOCK_SPENT 6u /* the ticks wanted pass 4,000,000,000 */
-#define PILQANDUR_SHORT_RECORD 10u /* fewer entries lent than ticks */
-#define PILQANDUR_UNFIT_STATE 11u  /* no state that these calls reach; document 01 says when */
+#define PILQANDUR_TASK_COUNT 1u     /* no task, or more than 16 */
+#define PILQANDUR_BAD_TASK 2u       /* a task breaks its limits; `index` is the first such */
+#define PILQANDUR_BAD_SERVER 3u     /* the server breaks its limits */
+#define PILQANDUR_BAD_WORK 4u       /* work 0 or above 60,000 */
+#define PILQANDUR_QUEUE_FULL 5u     /* 64 wait */
+#define PILQANDUR_CLOCK_SPENT 6u    /* the ticks wanted pass 4,000,000,000 */
+#define PILQANDUR_PLAN_TOO_LONG 7u  /* 7, 8 and 9 are the plan reader's, in the program `schedule`: no function here gives them */
+#define PILQANDUR_BAD_LINE 8u
+#define PILQANDUR_LINE_MISPLACED 9u
+#define PILQANDUR_SHORT_RECORD 10u  /* fewer entries lent than ticks */
+#define PILQANDUR_UNFIT_STATE 11u   /* the state breaks its limits; document 01 says which, and a flag that is neither 0 nor 1 is one more */
 
-/* A periodic task. 1 <= exec <= deadline <= period <= 60,000, phase <= 60,000. */
+/* A periodic task (a row of a plan). 1 <= exec <= deadline <= period <= 60,000, phase <= 60,000. */
 struct pilqandur_task {
     uint32_t phase, period, exec, deadline;
 };
@@ -67,15 +95,15 @@ struct pilqandur_table {
     struct pilqandur_server server;
 };
 
-/* What only a sporadic server keeps. */
+/* What only a sporadic server keeps. A flag is 0 or 1. */
 struct pilqandur_sporadic {
-    uint32_t tr;    /* the last replenishment */
-    uint32_t begin; /* first tick of the current or latest stretch in which a task above was open */
-    uint32_t nr;    /* the next replenishment, once it has served since tr */
-    bool served;    /* since tr */
-    bool late;      /* nr had passed when it was fixed */
-    bool above;     /* a task above the server was open in the last tick */
-    bool busy;      /* any task was */
+    uint32_t tr;     /* the last replenishment */
+    uint32_t begin;  /* first tick of the current or latest stretch in which a task above was open */
+    uint32_t nr;     /* the next replenishment, once it has served since tr */
+    uint32_t served; /* flag: since tr */
+    uint32_t late;   /* flag: nr had passed when it was fixed */
+    uint32_t above;  /* flag: a task above the server was open in the last tick */
+    uint32_t busy;   /* flag: any task was */
 };
 
 struct pilqandur_server_state {
@@ -108,8 +136,7 @@ struct pilqandur_state {
     struct pilqandur_queue queue;
 };
 
-/* A tick of a run. kind: 0 idle, 1 task, 2 request. id: the task's index, the request's id, 0 for idle. drops: jobs cut off in this
- * tick because their deadline came. */
+/* A tick of a run. id: the task's index, the request's id, 0 for idle. drops: jobs cut off in this tick because their deadline came. */
 struct pilqandur_entry {
     uint32_t kind, id, drops;
 };
@@ -141,6 +168,9 @@ struct pilqandur_tick_result {
     struct pilqandur_state state;
 };
 
+/* The number of the header that the archive belongs to. */
+uint32_t pilqandur_version(void);
+
 /* The fresh state of a table. Refuses with 1, 2, 3. */
 struct pilqandur_set_up_result pilqandur_set_up(struct pilqandur_table table);
 
@@ -155,6 +185,58 @@ struct pilqandur_tick_result pilqandur_tick(struct pilqandur_state state);
 
 /* k ticks; the first k of the len lent entries are written, the others stay. Refuses with 11, 6, 10. */
 struct pilqandur_moved_result pilqandur_run(struct pilqandur_state state, uint32_t k, struct pilqandur_entry *entries, size_t len);
+
+/* ---- The same for a state that the caller keeps and hands out by its address. Each returns the number, and changes what it is pointed to only
+ * where the call was carried out (number 0). index and ticked may be NULL. These forms are plain C over the calls above. */
+
+/* What a tick says, without its state. */
+struct pilqandur_ticked {
+    uint32_t kind, id, drops, finished, request, response;
+};
+
+/* The one thing that is written by a refused call: *index, where a refusal 2 (else 0) stands. */
+static inline uint32_t pilqandur_set_up_at(struct pilqandur_state *state, const struct pilqandur_table *table, uint32_t *index)
+{
+    const struct pilqandur_set_up_result up = pilqandur_set_up(*table);
+    if (index != NULL)
+        *index = up.index;
+    if (up.number == PILQANDUR_DONE)
+        *state = up.state;
+    return up.number;
+}
+
+static inline uint32_t pilqandur_request_at(struct pilqandur_state *state, uint32_t id, uint32_t work)
+{
+    const struct pilqandur_moved_result moved = pilqandur_request(*state, id, work);
+    if (moved.number == PILQANDUR_DONE)
+        *state = moved.state;
+    return moved.number;
+}
+
+static inline uint32_t pilqandur_tick_at(struct pilqandur_state *state, struct pilqandur_ticked *ticked)
+{
+    const struct pilqandur_tick_result tick = pilqandur_tick(*state);
+    if (tick.number == PILQANDUR_DONE) {
+        *state = tick.state;
+        if (ticked != NULL) {
+            ticked->kind = tick.kind;
+            ticked->id = tick.id;
+            ticked->drops = tick.drops;
+            ticked->finished = tick.finished;
+            ticked->request = tick.request;
+            ticked->response = tick.response;
+        }
+    }
+    return tick.number;
+}
+
+static inline uint32_t pilqandur_run_at(struct pilqandur_state *state, uint32_t k, struct pilqandur_entry *entries, size_t len)
+{
+    const struct pilqandur_moved_result moved = pilqandur_run(*state, k, entries, len);
+    if (moved.number == PILQANDUR_DONE)
+        *state = moved.state;
+    return moved.number;
+}
 
 #ifdef __cplusplus
 }

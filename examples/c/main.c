@@ -1,49 +1,61 @@
-/* Document 01's listing from C: one task, a deferrable server, a request at tick 3, eight ticks. */
+/* Document 01's listing from C: one task, a deferrable server, a request at tick 3, eight ticks. Every number that comes back is looked at. */
 #include <stdio.h>
+#include <stdlib.h>
 
 #include "pilqandur.h"
 
-static void show(unsigned tick, struct pilqandur_entry e)
+/* A call that was to be carried out. */
+static void done(const char *call, uint32_t number)
 {
-    static const char kinds[] = "ITA";
-    printf("X,%u,%c,%u,%u\n", tick, kinds[e.kind], e.id, e.drops);
+    if (number != PILQANDUR_DONE) {
+        fprintf(stderr, "%s: refused with %u\n", call, (unsigned)number);
+        exit(1);
+    }
+}
+
+static void show(uint32_t tick, uint32_t kind, uint32_t id, uint32_t drops)
+{
+    const char letter = kind == PILQANDUR_TASK ? 'T' : kind == PILQANDUR_REQUEST ? 'A' : 'I';
+    printf("X,%u,%c,%u,%u\n", (unsigned)tick, letter, (unsigned)id, (unsigned)drops);
 }
 
 int main(void)
 {
-    struct pilqandur_table table = {
+    if (pilqandur_version() != PILQANDUR_VERSION) {
+        fprintf(stderr, "the archive is of version %u, the header of %u\n", (unsigned)pilqandur_version(), (unsigned)PILQANDUR_VERSION);
+        return 1;
+    }
+
+    const struct pilqandur_table table = {
         .tasks = {{.phase = 3, .period = 6, .exec = 2, .deadline = 6}},
         .n = 1,
         .server = {.kind = PILQANDUR_DEFERRABLE, .place = 0, .period = 5, .budget = 2},
     };
-    struct pilqandur_admission_result admission = pilqandur_admit(table);
-    printf("B,0,%u\nB,S,%u\nV,%u\n", admission.bounds[0], admission.serverbound, admission.admitted);
+    const struct pilqandur_admission_result admission = pilqandur_admit(table);
+    done("admit", admission.number);
+    printf("B,0,%u\nB,S,%u\nV,%u\n", (unsigned)admission.bounds[0], (unsigned)admission.serverbound, (unsigned)admission.admitted);
 
-    struct pilqandur_set_up_result up = pilqandur_set_up(table);
-    if (up.number != PILQANDUR_DONE)
-        return 1;
+    struct pilqandur_state state;
+    done("set_up", pilqandur_set_up_at(&state, &table, NULL));
 
     /* three ticks at once, into a lent list */
     struct pilqandur_entry entries[3];
-    struct pilqandur_moved_result moved = pilqandur_run(up.state, 3, entries, 3);
-    for (unsigned t = 0; t < 3; t++)
-        show(t, entries[t]);
+    done("run", pilqandur_run_at(&state, 3, entries, 3));
+    for (uint32_t t = 0; t < 3; t++)
+        show(t, entries[t].kind, entries[t].id, entries[t].drops);
 
-    moved = pilqandur_request(moved.state, 7, 4);
-    if (moved.number != PILQANDUR_DONE)
-        return 1;
+    done("request", pilqandur_request_at(&state, 7, 4));
 
     /* five ticks one by one, which also say what they finish */
-    struct pilqandur_state state = moved.state;
-    for (unsigned t = 3; t < 8; t++) {
-        struct pilqandur_tick_result tick = pilqandur_tick(state);
-        show(t, (struct pilqandur_entry){tick.kind, tick.id, tick.drops});
-        if (tick.finished)
-            printf("F,%u,%u,%u\n", t, tick.request, tick.response);
-        state = tick.state;
+    for (uint32_t t = 3; t < 8; t++) {
+        struct pilqandur_ticked ticked;
+        done("tick", pilqandur_tick_at(&state, &ticked));
+        show(t, ticked.kind, ticked.id, ticked.drops);
+        if (ticked.finished)
+            printf("F,%u,%u,%u\n", (unsigned)t, (unsigned)ticked.request, (unsigned)ticked.response);
     }
 
-    /* a refusal: no work */
-    printf("refused %u\n", pilqandur_request(state, 8, 0).number);
+    /* a refusal: no work. The state stays as it is. */
+    printf("refused %u\n", (unsigned)pilqandur_request_at(&state, 8, 0));
     return 0;
 }

@@ -1,5 +1,30 @@
-//! The library for Rust callers: include/pilqandur.h's structs, and its calls as safe functions.
-//! Rust's own types keep what the header asks: a bool is 0 or 1, a lent list is the caller's alone and has its true length.
+//! The library for Rust callers: include/pilqandur.h's structs, and its calls as safe functions. The header says what each field, number and call is.
+//! Rust's own types keep what the header asks: a lent list is the caller's alone and has its true length. Every other value is taken.
+
+/// The number of the header that these declarations follow: `version()` has to be it.
+pub const VERSION: u32 = 1;
+
+/// Kinds of a server.
+pub const BACKGROUND: u32 = 0;
+pub const POLLING: u32 = 1;
+pub const DEFERRABLE: u32 = 2;
+pub const SPORADIC: u32 = 3;
+
+/// Kinds of an entry: who has the tick.
+pub const IDLE: u32 = 0;
+pub const TASK: u32 = 1;
+pub const REQUEST: u32 = 2;
+
+/// Numbers of an answer: carried out, or why not. 7, 8 and 9 are the plan reader's.
+pub const DONE: u32 = 0;
+pub const TASK_COUNT: u32 = 1;
+pub const BAD_TASK: u32 = 2;
+pub const BAD_SERVER: u32 = 3;
+pub const BAD_WORK: u32 = 4;
+pub const QUEUE_FULL: u32 = 5;
+pub const CLOCK_SPENT: u32 = 6;
+pub const SHORT_RECORD: u32 = 10;
+pub const UNFIT_STATE: u32 = 11;
 
 #[repr(C)]
 #[derive(Clone, Copy, Debug, Default, PartialEq, Eq)]
@@ -33,10 +58,10 @@ pub struct Sporadic {
     pub tr: u32,
     pub begin: u32,
     pub nr: u32,
-    pub served: bool,
-    pub late: bool,
-    pub above: bool,
-    pub busy: bool,
+    pub served: u32,
+    pub late: u32,
+    pub above: u32,
+    pub busy: u32,
 }
 
 #[repr(C)]
@@ -124,11 +149,17 @@ pub struct TickResult {
 }
 
 extern "C" {
+    fn pilqandur_version() -> u32;
     fn pilqandur_set_up(table: Table) -> SetUpResult;
     fn pilqandur_admit(table: Table) -> AdmissionResult;
     fn pilqandur_request(state: State, id: u32, work: u32) -> MovedResult;
     fn pilqandur_tick(state: State) -> TickResult;
     fn pilqandur_run(state: State, k: u32, entries: *mut Entry, len: usize) -> MovedResult;
+}
+
+pub fn version() -> u32 {
+    // SAFETY: no argument.
+    unsafe { pilqandur_version() }
 }
 
 pub fn set_up(table: Table) -> SetUpResult {
@@ -142,12 +173,12 @@ pub fn admit(table: Table) -> AdmissionResult {
 }
 
 pub fn present(state: State, id: u32, work: u32) -> MovedResult {
-    // SAFETY: numbers and bools by value.
+    // SAFETY: numbers by value.
     unsafe { pilqandur_request(state, id, work) }
 }
 
 pub fn tick(state: State) -> TickResult {
-    // SAFETY: numbers and bools by value.
+    // SAFETY: numbers by value.
     unsafe { pilqandur_tick(state) }
 }
 

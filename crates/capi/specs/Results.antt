@@ -1,4 +1,7 @@
 -- Each answer as C reads it: document 01's figures (table/specs/Refusal, rules/specs/Figures) as numbers, with the state beside them.
+use Prim.Native.Nat.{ℕ}
+use mathlib.Core.Bool.{cond}
+use mathlib.Core.List.{List}
 use Rattle.lists.specs.Numbers.{bitOf}
 use Rattle.queue.specs.declared.Finish.{Finish}
 use Rattle.queue.specs.Queue.{FinishFigures, finishFigures}
@@ -6,16 +9,23 @@ use Rattle.table.specs.declared.State.{State}
 use Rattle.table.specs.Refusal.{Figures}
 use Rattle.bounds.specs.declared.Admission.{Admission}
 use Rattle.rules.specs.declared.Entry.{Entry}
-use Rattle.rules.specs.Figures.{TickFigures}
+use Rattle.rules.specs.Calls.{runList}
+use Rattle.rules.specs.Figures.{TickFigures, refusedFigures}
 use Rattle.capi.specs.declared.SetUpResult.{SetUpResult}
 use Rattle.capi.specs.declared.AdmissionResult.{AdmissionResult}
 use Rattle.capi.specs.declared.MovedResult.{MovedResult}
 use Rattle.capi.specs.declared.TickResult.{TickResult}
 use Rattle.capi.specs.declared.Done.{Done}
+use Rattle.capi.specs.declared.boundary.CState.{CState}
+use Rattle.capi.specs.Boundary.{flagsFit, stateFrom, stateTo}
+
+-- the number of this header and archive
+abbrev pub version : ℕ
+version = 1
 
 -- "A refusal returns its number, and for 2 the index"
 abbrev pub setUpResult : Figures → State → SetUpResult
-setUpResult f s = record { number = f .number; index = f .value; state = s }
+setUpResult f s = record { number = f .number; index = f .value; state = stateTo s }
 
 -- "V: admitted 1 or 0"
 abbrev pub admissionResult : Figures → Admission → AdmissionResult
@@ -27,13 +37,21 @@ admissionResult f x = record {
   admitted = bitOf (x .admitted);
 }
 
--- the answer of a request and of a run
-abbrev pub movedResult : Figures → State → MovedResult
-movedResult f s = record { number = f .number; state = s }
+-- the answer of a request and of a run: its number and the state after it
+abbrev pub movedAt : ℕ → CState → MovedResult
+movedAt n s = record { number = n; state = s }
+
+-- of a state whose flags do not fit: 11, and the state as it came
+abbrev pub movedResult : CState → Figures → State → MovedResult
+movedResult s f next = cond (flagsFit s) (movedAt (f .number) (stateTo next)) (movedAt 11 s)
+
+-- the lent list after a run
+abbrev pub lentAfter : CState → ℕ → List Entry → List Entry
+lentAfter s k lent = cond (flagsFit s) (runList (stateFrom s) k lent) lent
 
 -- the answer of a tick: its number, its record, what it finished, and the state after it
-abbrev pub tickResult : TickFigures → State → TickResult
-tickResult f s = record {
+abbrev pub tickAt : TickFigures → CState → TickResult
+tickAt f s = record {
   number = f .number;
   kind = f .entry .kind;
   id = f .entry .id;
@@ -43,6 +61,10 @@ tickResult f s = record {
   response = f .finish .response;
   state = s;
 }
+
+-- of a state whose flags do not fit: 11, and the state as it came
+abbrev pub tickResult : CState → TickFigures → State → TickResult
+tickResult s f next = cond (flagsFit s) (tickAt f (stateTo next)) (tickAt (refusedFigures 11) s)
 
 -- what a tick finished, as the code holds it, and the same in figures
 abbrev pub doneBy : Finish → Done

@@ -5,17 +5,23 @@ ghost use lib.ListN.{length};
 ghost use Rattle.table.specs.Refusal.{value, numberOf, valueOf, figures};
 ghost use Rattle.table.specs.State.{freshState, tableFigures};
 ghost use Rattle.bounds.specs.Admission.{admissionCall};
-ghost use Rattle.rules.specs.Calls.{requestCall, tickCall, runCall, runList};
+ghost use Rattle.rules.specs.Calls.{requestCall, tickCall, runCall};
 ghost use Rattle.rules.specs.Figures.{requestFigures, runFigures, answerFigures, tickFigures};
-ghost use Rattle.capi.specs.Results.{setUpResult, admissionResult, movedResult, tickResult, doneBy, ranBy};
+ghost use Rattle.capi.specs.Boundary.{stateFrom, handedBack};
+ghost use Rattle.capi.specs.Results.{version, setUpResult, admissionResult, movedAt, movedResult, lentAfter, tickAt, tickResult, doneBy, ranBy};
+use boundary::CState;
 use queue::Finish;
 use rules::Entry;
 use rules::Moved;
 use rules::TickAnswer;
 use table::Checked;
 use table::Refusal;
-use table::State;
 use table::Table;
+
+mod boundary;
+
+// The number of this header and archive: it rises with each change of a struct, a number or a meaning. include/pilqandur.h says the same.
+const VERSION: u32 = 1;
 
 // ---- what a call answers: number is 0 or document 01's number of the refusal; index belongs to refusal 2
 
@@ -24,7 +30,7 @@ use table::Table;
 pub struct SetUpResult {
     pub number: u32,
     pub index: u32,
-    pub state: State,
+    pub state: CState,
 }
 
 // Of admission. admitted is 1 or 0.
@@ -41,7 +47,7 @@ pub struct AdmissionResult {
 #[repr(C)]
 pub struct MovedResult {
     pub number: u32,
-    pub state: State,
+    pub state: CState,
 }
 
 // Of a tick. kind, id and drops are the tick's record. finished is 1 where the tick finished a request: then request is its id and response
@@ -55,7 +61,7 @@ pub struct TickResult {
     pub finished: u32,
     pub request: u32,
     pub response: u32,
-    pub state: State,
+    pub state: CState,
 }
 
 // The last three numbers of a tick.
@@ -123,21 +129,21 @@ fn done_by(finish: Finish) -> Done
 
 // ---- answers as numbers
 
-// A request's or a run's answer.
-fn moved_result(moved: Moved) -> MovedResult
-    ensures { λ r. ⌜ r ≡ movedResult (figures (moved .answer)) (moved .state) ⌝ }
+// A request's or a run's answer, of the state that was given.
+fn moved_result(state: CState, moved: Moved) -> MovedResult
+    ensures { λ r. ⌜ r ≡ movedAt (numberOf (moved .answer)) (handedBack state (moved .state)) ⌝ }
 {
     let answer = moved.answer;
-    let state = moved.state;
+    let next = moved.state;
     MovedResult {
         number: number_of(answer),
-        state,
+        state: state.handed_back(next),
     }
 }
 
 // The answer of a tick that ran.
-fn ran_result(ran: Entry, done: Done, state: State) -> TickResult
-    ensures { λ r. ⌜ r ≡ tickResult (ranBy ran done) state ⌝ }
+fn ran_result(ran: Entry, done: Done, state: CState) -> TickResult
+    ensures { λ r. ⌜ r ≡ tickAt (ranBy ran done) state ⌝ }
 {
     TickResult {
         number: 0,
@@ -152,8 +158,8 @@ fn ran_result(ran: Entry, done: Done, state: State) -> TickResult
 }
 
 // A tick's answer, whether it ran or not.
-fn tick_result_by(answer: TickAnswer, state: State) -> TickResult
-    ensures { λ r. ⌜ r ≡ tickResult (answerFigures answer) state ⌝ }
+fn tick_result_by(answer: TickAnswer, state: CState) -> TickResult
+    ensures { λ r. ⌜ r ≡ tickAt (answerFigures answer) state ⌝ }
 {
     match answer {
         TickAnswer::Ran {
@@ -176,6 +182,14 @@ fn tick_result_by(answer: TickAnswer, state: State) -> TickResult
 
 // ---- the calls
 
+// The number of the header that this archive belongs to.
+#[no_mangle]
+pub extern "C" fn pilqandur_version() -> u32
+    ensures { λ r. ⌜ r ≡ version ⌝ }
+{
+    VERSION
+}
+
 // Set-up: the fresh state of a table, or refusal 1, 2 or 3.
 #[no_mangle]
 pub extern "C" fn pilqandur_set_up(table: Table) -> SetUpResult
@@ -187,7 +201,7 @@ pub extern "C" fn pilqandur_set_up(table: Table) -> SetUpResult
     SetUpResult {
         number: number_of(answer),
         index: value_of(answer),
-        state,
+        state: boundary::to_c(state),
     }
 }
 
@@ -210,28 +224,29 @@ pub extern "C" fn pilqandur_admit(table: Table) -> AdmissionResult
 
 // A request presented at the state's clock, or refusal 11, 4 or 5.
 #[no_mangle]
-pub extern "C" fn pilqandur_request(state: State, id: u32, work: u32) -> MovedResult
-    ensures { λ r. ⌜ r ≡ movedResult (requestFigures state work) (requestCall state id work .state) ⌝ }
+pub extern "C" fn pilqandur_request(state: CState, id: u32, work: u32) -> MovedResult
+    ensures { λ r. ⌜ r ≡ movedResult state (requestFigures (stateFrom state) work) (requestCall (stateFrom state) id work .state) ⌝ }
 {
-    moved_result(scheduler::request(state, id, work))
+    let moved = scheduler::request(state.taken(), id, work);
+    moved_result(state, moved)
 }
 
 // One tick, or refusal 11 or 6.
 #[no_mangle]
-pub extern "C" fn pilqandur_tick(state: State) -> TickResult
-    ensures { λ r. ⌜ r ≡ tickResult (tickFigures state) (tickCall state .state) ⌝ }
+pub extern "C" fn pilqandur_tick(state: CState) -> TickResult
+    ensures { λ r. ⌜ r ≡ tickResult state (tickFigures (stateFrom state)) (tickCall (stateFrom state) .state) ⌝ }
 {
-    let ticked = scheduler::tick(state);
+    let ticked = scheduler::tick(state.taken());
     let answer = ticked.answer;
     let next = ticked.state;
-    tick_result_by(answer, next)
+    tick_result_by(answer, state.handed_back(next))
 }
 
 // k ticks, the record of each in the lent list, or refusal 11, 6 or 10. The list is lent on.
 #[no_mangle]
-pub extern "C" fn pilqandur_run(state: State, k: u32, entries: &mut [Entry]) -> MovedResult
-    ensures { λ r. ⌜ (r ≡ movedResult (runFigures state k (length (now (entries .entry)))) (runCall state k (length (now (entries .entry))) .state)) × (now (entries .exit) ≡ runList state k (now (entries .entry))) ⌝ }
+pub extern "C" fn pilqandur_run(state: CState, k: u32, entries: &mut [Entry]) -> MovedResult
+    ensures { λ r. ⌜ (r ≡ movedResult state (runFigures (stateFrom state) k (length (now (entries .entry)))) (runCall (stateFrom state) k (length (now (entries .entry))) .state)) × (now (entries .exit) ≡ lentAfter state k (now (entries .entry))) ⌝ }
 {
-    let moved = scheduler::run(state, k, entries);
-    moved_result(moved)
+    let moved = scheduler::run(state.taken(), k, entries);
+    moved_result(state, moved)
 }

@@ -32,10 +32,10 @@ pub struct Sporadic {
     pub tr: u32,
     pub begin: u32,
     pub nr: u32,
-    pub served: bool,
-    pub late: bool,
-    pub above: bool,
-    pub busy: bool,
+    pub served: u32,
+    pub late: u32,
+    pub above: u32,
+    pub busy: u32,
 }
 
 #[repr(C)]
@@ -82,6 +82,20 @@ pub struct Entry {
     pub kind: u32,
     pub id: u32,
     pub drops: u32,
+}
+
+impl Sporadic {
+    /// The flags cross as numbers; 0 and 1 are the flags.
+    pub fn flags(&mut self) -> [&mut u32; 4] {
+        [&mut self.served, &mut self.late, &mut self.above, &mut self.busy]
+    }
+}
+
+impl State {
+    /// A state with a number other than 0 and 1 as a flag is unfit.
+    pub fn flags_fit(mut self) -> bool {
+        self.progress.server.sporadic.flags().into_iter().all(|flag| *flag <= 1)
+    }
 }
 
 /// `number` is 0 or a refusal of document 01; `index` belongs to refusal 2.

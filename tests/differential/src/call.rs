@@ -2,7 +2,7 @@
 
 use second::{Entry, Service, State, Table, Ticked};
 
-use crate::abi::Calls;
+use crate::abi::{self, Calls};
 use crate::convert::*;
 use crate::random::Random;
 use crate::state;
@@ -21,17 +21,32 @@ pub enum Call {
         k: u32,
         lent: usize,
     },
+    /// Request, tick and run on the state with these numbers for its four flags, one of them at least neither 0 nor 1.
+    Damaged {
+        flags: [u32; 4],
+    },
 }
 
 /// What the lent entries hold before a run.
 const LENT: Entry = Entry { kind: 0xeeee_eeee, id: 0xeeee_eeed, drops: 0xeeee_eeec };
 
 pub fn random_call(random: &mut Random) -> Call {
-    match random.below(10) {
+    match random.below(11) {
         0..=3 => Call::Tick,
         4..=6 => Call::Request { id: random.word(), work: work(random) },
+        7 => Call::Damaged { flags: no_flags(random) },
         _ => run(random),
     }
+}
+
+/// Flags, one or more of them with another number in its place: close to a flag, a flag in a higher byte, or any.
+fn no_flags(random: &mut Random) -> [u32; 4] {
+    let mut flags = [0; 4].map(|_| random.from(0, 1));
+    for _ in 0..random.from(1, 3) {
+        let other = random.from(2, u32::MAX);
+        flags[random.below(4)] = random.pick(&[2, 3, 0xff, 0x100, 0x101, 0x0100_0000, 0x8000_0001, u32::MAX, other]);
+    }
+    flags
 }
 
 fn work(random: &mut Random) -> u32 {
@@ -71,6 +86,7 @@ pub fn compare(calls: &Calls, state: &State, call: &Call) -> Result<State, Strin
         Call::Request { id, work } => compare_request(calls, state, id, work),
         Call::Tick => compare_tick(calls, state),
         Call::Run { k, lent } => compare_run(calls, state, k, lent),
+        Call::Damaged { flags } => compare_damaged(calls, state, flags),
     }
 }
 
@@ -88,7 +104,7 @@ fn compare_set_up(calls: &Calls, before: &State, table: Table) -> Result<State, 
     match State::set_up(table) {
         Ok(fresh) => {
             same("number", 0, library.number)?;
-            same_state(&fresh, &from_state(&library.state))?;
+            same_after(&fresh, &library.state)?;
             Ok(fresh)
         }
         Err(refused) => {
@@ -132,7 +148,7 @@ fn compare_request(calls: &Calls, before: &State, id: u32, work: u32) -> Result<
     // SAFETY: structs by value, no pointer.
     let library = unsafe { (calls.request)(to_state(before), id, work) };
     same("number", number, library.number)?;
-    same_state(&next, &from_state(&library.state))?;
+    same_after(&next, &library.state)?;
     Ok(next)
 }
 
@@ -146,7 +162,7 @@ fn compare_tick(calls: &Calls, before: &State) -> Result<State, String> {
         same("finished", ticked.finish.is_some() as u32, library.finished)?;
         same_answer(&ticked, &from_tick(&library))?;
     }
-    same_state(&next, &from_state(&library.state))?;
+    same_after(&next, &library.state)?;
     Ok(next)
 }
 
@@ -155,14 +171,44 @@ fn compare_run(calls: &Calls, before: &State, k: u32, lent: usize) -> Result<Sta
     let mut record = vec![LENT; lent];
     let number = next.run(k, &mut record).err().unwrap_or(0);
     let mut entries = vec![to_entry(LENT); lent];
+    // An empty list may be no list.
+    let list = if lent == 0 { std::ptr::null_mut() } else { entries.as_mut_ptr() };
     // SAFETY: the list is lent for the call, with its own length.
-    let library = unsafe { (calls.run)(to_state(before), k, entries.as_mut_ptr(), entries.len()) };
+    let library = unsafe { (calls.run)(to_state(before), k, list, lent) };
     same("number", number, library.number)?;
     for (i, (second, library)) in record.into_iter().zip(entries).enumerate() {
         same(&format!("entry {i}"), second, from_entry(library))?;
     }
-    same_state(&next, &from_state(&library.state))?;
+    same_after(&next, &library.state)?;
     Ok(next)
+}
+
+/// A state whose flags are no flags: each call refuses it, hands it back as it came and leaves the lent list.
+fn compare_damaged(calls: &Calls, before: &State, flags: [u32; 4]) -> Result<State, String> {
+    let mut given = to_state(before);
+    for (flag, number) in given.progress.server.sporadic.flags().into_iter().zip(flags) {
+        *flag = number;
+    }
+    let unfit = second::refusal::UNFIT_STATE;
+    let mut entries = [to_entry(LENT); 3];
+    // SAFETY: structs by value; the list is lent for the call, with its own length.
+    let (moved, ticked, ran) =
+        unsafe { ((calls.request)(given, 1, 1), (calls.tick)(given), (calls.run)(given, 2, entries.as_mut_ptr(), entries.len())) };
+    for (call, number, state) in
+        [("request", moved.number, moved.state), ("tick", ticked.number, ticked.state), ("run", ran.number, ran.state)]
+    {
+        same(&format!("{call}'s number"), unfit, number)?;
+        same(&format!("{call}'s flags and times"), given.progress.server.sporadic, state.progress.server.sporadic)?;
+        same(&format!("{call}'s state is as it came"), true, given == state)?;
+    }
+    same("the lent list", [to_entry(LENT); 3], entries)?;
+    Ok(*before)
+}
+
+/// The state that a call handed back, its flags among the rest.
+fn same_after(second: &State, library: &abi::State) -> Result<(), String> {
+    same("every flag is 0 or 1", true, library.flags_fit())?;
+    same_state(second, &from_state(library))
 }
 
 /// The answer of a tick that was carried out.

@@ -24,7 +24,8 @@ pub fn from_table(table: &abi::Table) -> second::Table {
 
 pub fn to_state(state: &second::State) -> abi::State {
     let v = state.service;
-    let sporadic = abi::Sporadic { tr: v.tr, begin: v.begin, nr: v.nr, served: v.served, late: v.late, above: v.above, busy: v.busy };
+    let [served, late, above, busy] = [v.served, v.late, v.above, v.busy].map(u32::from);
+    let sporadic = abi::Sporadic { tr: v.tr, begin: v.begin, nr: v.nr, served, late, above, busy };
     let request = |r: second::Request| abi::Request { id: r.id, work: r.work, arrival: r.arrival };
     abi::State {
         table: to_table(&state.table),
@@ -45,10 +46,10 @@ pub fn from_state(state: &abi::State) -> second::State {
             tr: s.tr,
             begin: s.begin,
             nr: s.nr,
-            served: s.served,
-            late: s.late,
-            above: s.above,
-            busy: s.busy,
+            served: s.served == 1,
+            late: s.late == 1,
+            above: s.above == 1,
+            busy: s.busy == 1,
         },
         clock: p.clock,
         queue: state.queue.requests.map(request),

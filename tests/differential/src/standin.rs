@@ -20,13 +20,22 @@ pub unsafe extern "C" fn admit(table: Table) -> AdmissionResult {
     }
 }
 
+/// What a state with a number other than 0 and 1 as a flag is refused with.
+const UNFIT: u32 = second::refusal::UNFIT_STATE;
+
 pub unsafe extern "C" fn request(state: State, id: u32, work: u32) -> MovedResult {
+    if !state.flags_fit() {
+        return MovedResult { number: UNFIT, state };
+    }
     let mut next = from_state(&state);
     let number = next.request(id, work).err().unwrap_or(0);
     MovedResult { number, state: to_state(&next) }
 }
 
 pub unsafe extern "C" fn tick(state: State) -> TickResult {
+    if !state.flags_fit() {
+        return TickResult { number: UNFIT, kind: 0, id: 0, drops: 0, finished: 0, request: 0, response: 0, state };
+    }
     let mut next = from_state(&state);
     let ticked = next.tick();
     let entry = ticked.map_or(second::Entry::default(), |ticked| ticked.entry);
@@ -46,6 +55,9 @@ pub unsafe extern "C" fn tick(state: State) -> TickResult {
 /// # Safety
 /// `entries` points to `len` entries, or `len` is 0.
 pub unsafe extern "C" fn run(state: State, k: u32, entries: *mut Entry, len: usize) -> MovedResult {
+    if !state.flags_fit() {
+        return MovedResult { number: UNFIT, state };
+    }
     let lent: &mut [Entry] = if len == 0 { &mut [] } else { std::slice::from_raw_parts_mut(entries, len) };
     let mut record: Vec<second::Entry> = lent.iter().map(|&entry| from_entry(entry)).collect();
     let mut next = from_state(&state);

@@ -76,7 +76,10 @@ fn ending(state: &State, call: &Call) -> String {
         Call::Admit(table) => ("admit", table.check().err().map(|refused| refused.number)),
         Call::Request { id, work } => ("request", state.request(id, work).err()),
         Call::Tick => ("tick", state.tick().err()),
-        Call::Run { k, lent } => ("run", state.run(k, &mut vec![second::Entry::default(); lent]).err()),
+        Call::Run { k, lent } => {
+            (if lent == 0 { "run without a list" } else { "run" }, state.run(k, &mut vec![second::Entry::default(); lent]).err())
+        }
+        Call::Damaged { .. } => ("damaged flags", Some(second::refusal::UNFIT_STATE)),
     };
     number.map_or(format!("{name} done"), |number| format!("{name} refused {number}"))
 }

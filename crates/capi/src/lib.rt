@@ -2,7 +2,7 @@
 // its arguments to the library's own call and turns the answer into document 01's numbers. include/pilqandur.h is the other side.
 ghost use mathlib.Core.Path.{_≡_};
 ghost use lib.ListN.{length};
-ghost use Rattle.table.specs.Refusal.{value, numberOf, valueOf, figures};
+ghost use Rattle.table.specs.Refusal.{value, numberOf, valueOf};
 ghost use Rattle.table.specs.State.{freshState, tableFigures};
 ghost use Rattle.bounds.specs.Admission.{admissionCall};
 ghost use Rattle.rules.specs.Calls.{requestCall, tickCall, runCall};

@@ -1,28 +1,31 @@
 /* Pilqandur: a tick scheduler and its admission bounds, as static library target/staticlib/libcapi.a (`rt staticlib capi`).
  *
- * Every function of the library is proved to give, for every value of its arguments, what document 01's rules give: the number of the answer,
- * the next state, the bounds, the entries of a run. (crates/capi: the contracts; crates/rules/specs: the rules; docs/MANUAL.md: the rules in
- * plain words, and what to do about each number.)
+ * Every function of the library is proved to give, for every value of its arguments, what document 01's rules give: the
+ * number of the answer, the next state, the bounds, the entries of a run. (docs/MANUAL.md: the rules in plain words, and
+ * what to do about each number; crates/capi: the contracts; crates/rules/specs: the rules.)
  *
  * What the caller has to see to:
  *
- *  - Outside the contract is one thing alone: a pointer that points to less than it says. `entries` points to `len` entries that nobody else
- *    reads or writes during the call. A list of no entries may be NULL: pilqandur_run(state, 0, NULL, 0) is a run of no ticks. The states and the
- *    table of the inline forms below are pointed to, not NULL.
- *  - Header and archive belong together: pilqandur_version() is PILQANDUR_VERSION. Ask once at the start, and again of a stored state.
- *  - The caller's compiler and the library agree on the x86-64 System V calling convention, and the caller passes structs laid out as
- *    declared here. This is tested, not proved: tests/link compares the sizes and offsets of this header with those of the Rust
- *    declarations and runs a caller of each language; tests/run-calls compares every field of random states that went through the archive.
+ *  - Outside the contract is one thing alone: a pointer that points to less than it says. `entries` points to `len` entries
+ *    that nobody else reads or writes during the call. A list of no entries may be NULL: pilqandur_run(state, 0, NULL, 0) is
+ *    a run of no ticks. The inline forms at the end are pointed to a state and a table, never NULL.
+ *  - Header and archive belong together where pilqandur_version() is PILQANDUR_VERSION. Ask at the start, before any other
+ *    call, and keep the number with a stored state.
+ *  - The caller's compiler and the library agree on the x86-64 System V calling convention, and the caller passes structs
+ *    laid out as declared here. This is tested, not proved: tests/link compares the sizes and offsets of this header with
+ *    those of the Rust declarations and runs a caller of each language; tests/run-calls compares every field of random
+ *    states that went through the archive.
  *
- * A state can be kept, copied, stored and taken up again later: it is numbers alone, without pointers. Every pattern of bits is taken: a state
- * that breaks its limits, one with a flag that is neither 0 nor 1 among them, is refused with 11 and handed back as it came. But 11 is no
- * checksum: a state in which an id or a work was changed is still a state, and is run as one. Keep a checksum beside a stored state
- * (examples/c/saved.c does).
+ * A state is numbers alone, without pointers: it can be copied, stored and taken up again. Every pattern of bits is taken. A
+ * state that breaks its limits, one with a flag that is neither 0 nor 1 among them, is refused with 11 and handed back as it
+ * came. But 11 is no checksum: a state in which an id or a work was changed is still a state, and is run as one. Keep a
+ * checksum beside a stored state (examples/c/saved.c does).
  *
  * A run does not report what finished: make ticks one by one where the responses are wanted.
  *
- * No function keeps anything between calls, allocates or does input or output: the archive has no data of its own, and wants only memcpy, memmove
- * and memset of the C library. State goes in by value and comes back by value: two schedulers are two states.
+ * No function keeps anything between calls, allocates or does input or output: the archive has no data of its own, and wants
+ * only memcpy, memmove and memset of the C library. State goes in by value and comes back by value: two schedulers are two
+ * states.
  */
 #ifndef PILQANDUR_H
 #define PILQANDUR_H
@@ -44,8 +47,9 @@ extern "C" {
 #define PILQANDUR_MAX_WORK 60000u        /* of a request */
 #define PILQANDUR_LAST_CLOCK 4000000000u /* at it no tick runs */
 
-/* Stack, in bytes: what each call takes at most, whatever its arguments, read off the machine code and measured beside it by `tools/stack`. What memcpy
- * takes comes to it (8 bytes were seen), and in the caller's frame the arguments and the result by value: a table is 276 bytes, a state 1,148. */
+/* Stack, in bytes: what each call takes at most, whatever its arguments, its return address included. `tools/stack` reads it
+ * off the machine code and measures beside it. To it come what memcpy takes (8 bytes were seen) and, in the caller's frame,
+ * the arguments and the result by value: a table is 276 bytes, a state 1,148. */
 #define PILQANDUR_STACK_SET_UP 656
 #define PILQANDUR_STACK_ADMIT 1360
 #define PILQANDUR_STACK_REQUEST 5376
@@ -71,11 +75,11 @@ extern "C" {
 #define PILQANDUR_BAD_WORK 4u       /* work 0 or above 60,000 */
 #define PILQANDUR_QUEUE_FULL 5u     /* 64 wait */
 #define PILQANDUR_CLOCK_SPENT 6u    /* the ticks wanted pass 4,000,000,000 */
-#define PILQANDUR_PLAN_TOO_LONG 7u  /* 7, 8 and 9 are the plan reader's, in the program `schedule`: no function here gives them */
+#define PILQANDUR_PLAN_TOO_LONG 7u  /* 7, 8, 9: the plan reader's, in the program `schedule`; no function here gives them */
 #define PILQANDUR_BAD_LINE 8u
 #define PILQANDUR_LINE_MISPLACED 9u
 #define PILQANDUR_SHORT_RECORD 10u  /* fewer entries lent than ticks */
-#define PILQANDUR_UNFIT_STATE 11u   /* the state breaks its limits; document 01 says which, and a flag that is neither 0 nor 1 is one more */
+#define PILQANDUR_UNFIT_STATE 11u   /* the state breaks its limits (docs/MANUAL.md lists them) */
 
 /* A periodic task (a row of a plan). 1 <= exec <= deadline <= period <= 60,000, phase <= 60,000. */
 struct pilqandur_task {
@@ -136,7 +140,8 @@ struct pilqandur_state {
     struct pilqandur_queue queue;
 };
 
-/* A tick of a run. id: the task's index, the request's id, 0 for idle. drops: jobs cut off in this tick because their deadline came. */
+/* A tick of a run. id: the task's index, the request's id, 0 for idle. drops: jobs cut off in this tick because their
+ * deadline came. */
 struct pilqandur_entry {
     uint32_t kind, id, drops;
 };
@@ -147,8 +152,8 @@ struct pilqandur_set_up_result {
     struct pilqandur_state state;
 };
 
-/* The worst-case response-time bound of each task and of the server, 0 where there is none; slots past n are 0, and of a refused table all
- * is. admitted is 1 or 0: whether every task, and a server of kinds 1 to 3, has a bound. */
+/* The worst-case response-time bound of each task and of the server, 0 where there is none; slots past n are 0, and of a
+ * refused table all is. admitted is 1 or 0: whether every task, and a server of kinds 1 to 3, has a bound. */
 struct pilqandur_admission_result {
     uint32_t number, index;
     uint32_t bounds[PILQANDUR_MAX_TASKS];
@@ -161,8 +166,9 @@ struct pilqandur_moved_result {
     struct pilqandur_state state;
 };
 
-/* kind, id, drops as in an entry. finished is 1 if the tick finished a request: then request is its id, and response the ticks from its
- * arrival to the end of this tick. What does not apply is 0, and of a refused tick all is but number and state. */
+/* kind, id, drops as in an entry. finished is 1 if the tick finished a request: then request is its id, and response the
+ * ticks from its arrival to the end of this tick. What does not apply is 0, and of a refused tick all is but number and
+ * state. */
 struct pilqandur_tick_result {
     uint32_t number, kind, id, drops, finished, request, response;
     struct pilqandur_state state;
@@ -186,8 +192,9 @@ struct pilqandur_tick_result pilqandur_tick(struct pilqandur_state state);
 /* k ticks; the first k of the len lent entries are written, the others stay. Refuses with 11, 6, 10. */
 struct pilqandur_moved_result pilqandur_run(struct pilqandur_state state, uint32_t k, struct pilqandur_entry *entries, size_t len);
 
-/* ---- The same for a state that the caller keeps and hands out by its address. Each returns the number, and changes what it is pointed to only
- * where the call was carried out (number 0). index and ticked may be NULL. These forms are plain C over the calls above. */
+/* ---- The same for a state that the caller keeps and hands out by its address. Each returns the number, and changes what it
+ * is pointed to only where the call was carried out (number 0). index and ticked may be NULL. These forms are plain C over
+ * the calls above, and take the stack of the arguments and the result besides. */
 
 /* What a tick says, without its state. */
 struct pilqandur_ticked {

@@ -79,23 +79,35 @@ KIND_LIMITS = [("kind", 0, len(KINDS) - 1)]
 BACKGROUND_LIMITS = [("place", TASKS, TASKS), ("period", 0, 0), ("budget", 0, 0)]
 BUDGET_LIMITS = [("place", 0, TASKS), ("period", 1, MOST), ("budget", 1, "period")]
 
-# The byte order marks that editors put before a plan's first line.
-MARKS = {b"\xef\xbb\xbf": "UTF-8", b"\xff\xfe": "UTF-16", b"\xfe\xff": "UTF-16"}
+HEADING = re.compile(rb"[A-Za-z]{3,}")
 
-# Characters that get into plans and belong in none: name, and what to do.
-ODD = {
-    "\r": ("a carriage return", "lines end in a line feed alone, so save the plan with Unix line ends, not with those of Windows"),
-    " ": ("a blank", "take it out, since only commas stand between fields"),
-    "\t": ("a tab", "take it out, since only commas stand between fields"),
-    ";": ("a semicolon", "fields are parted by commas"),
-    '"': ("a quote", "take it out, since nothing is quoted"),
-    "'": ("a quote", "take it out, since nothing is quoted"),
-    "+": ("a sign", "take it out, since numbers are digits alone"),
-    "-": ("a sign", "numbers are 0 or above, and digits alone"),
-    ".": ("a decimal point", "numbers are whole, and digits alone"),
-    "#": ("a comment", "take it out, since a plan has no comments"),
+# What a file that is no plain text starts with, and what to do.
+STARTS = {
+    b"\xef\xbb\xbf": "the plan starts with a byte order mark (UTF-8); save it as plain ASCII text without one",
+    b"\xff\xfe": "the plan starts with a byte order mark (UTF-16); save it as plain ASCII text",
+    b"\xfe\xff": "the plan starts with a byte order mark (UTF-16); save it as plain ASCII text",
+    b"PK\x03\x04": "this is a spreadsheet's own file; save the sheet as text with commas (CSV)",
 }
-ODD_AT = re.compile(rb"[ \t]*#|.", re.DOTALL)  # blanks before a comment belong to it
+
+# What gets into plans and belongs in none: name, and what to do. The column told is that of the group.
+BLANK = "take it out, or put a comma in its place if it parts two fields"
+QUOTE = "take it out, since nothing is quoted"
+ODD = [(re.compile(pattern), name, advice) for pattern, name, advice in [
+    (rb"(\r)(?=[TSAR],)", "a carriage return", "lines end in a line feed: put one in the place of each carriage return"),
+    (rb"(\r)", "a carriage return", "lines end in a line feed alone, so save the plan with Unix line ends, not with those of Windows"),
+    (rb"(#)(?:REF|N/A|VALUE|DIV|NAME|NUM|NULL)", "a spreadsheet's error", "mend the cell that it comes from"),
+    (rb"[ \t]*(#)", "a comment", "take it out, since a plan has no comments"),
+    (rb"( )", "a blank", BLANK),
+    (rb"(\t)", "a tab", BLANK),
+    (rb"(\xc2?\xa0)", "a no-break blank", BLANK),
+    (rb"(;)", "a semicolon", "fields are parted by commas"),
+    (rb"([\"'])", "a quote", QUOTE),
+    (rb"(\+)", "a sign", "take it out, since numbers are digits alone"),
+    (rb"(-)", "a sign", "numbers are 0 or above, and digits alone"),
+    (rb"(\.)", "a decimal point", "numbers are whole, without thousands separators"),
+    (rb"(\0)", "a NUL byte", "the plan looks like UTF-16, so save it as plain ASCII text"),
+    (rb"(\x1a)", "an end-of-file mark (Ctrl-Z)", "take it out"),
+]]
 
 
 def show(text):
@@ -107,10 +119,11 @@ def show(text):
 
 
 def odd(text, at):
-    """An odd character with its column, and what to do about it, if that is known."""
-    last = ODD_AT.match(text, at).end() - 1
-    name, advice = ODD.get(chr(text[last]), (show(text[last:last + 1]), None))
-    return f"{name} at column {last + 1}", advice
+    """What stands there with its column, and what to do about it, if that is known."""
+    for pattern, name, advice in ODD:
+        if found := pattern.match(text, at):
+            return f"{name} at column {found.start(1) + 1}", advice
+    return f"{show(text[at:at + 1])} at column {at + 1}", None
 
 
 # ---- What is wrong with a line's form (8), in words; None if nothing is.
@@ -120,11 +133,13 @@ def bad_line(number, text):
 
 def bad_letter(number, text):
     """The line's letter, up to the comma after it."""
-    for mark, name in MARKS.items():
-        if number == 1 and text.startswith(mark):
-            return f"the plan starts with a byte order mark ({name}); save it as plain ASCII text without one"
+    for start, fault in STARTS.items():
+        if number == 1 and text.startswith(start):
+            return fault
     if not text:
         return "the line is empty; take it out"
+    if found := HEADING.match(text):
+        return f"the line starts with the word {show(found[0])}, as a heading does; take it out"
     letter = chr(text[0])
     if letter in FORMS:
         return bad_comma(letter, text)
@@ -216,7 +231,8 @@ def broken(values, limits, owner):
         if not size(least) <= value <= size(most):
             side, limit = ("below", least) if value < size(least) else ("above", most)
             rule = f"{field} = {most}" if least == most else f"{least} <= {field} <= {most}"
-            return f"{field} {value} is {side} {name(limit)}; {owner} has {rule}"
+            unit = ", in ticks of 10 ms" if limit == MOST else ""
+            return f"{field} {value} is {side} {name(limit)}; {owner} has {rule}{unit}"
     return None
 
 

@@ -1,5 +1,6 @@
 //! The library for Rust callers: include/pilqandur.h's structs, and its calls as safe functions. The header says what each field, number and call is.
 //! Rust's own types keep what the header asks: a lent list is the caller's alone and has its true length. Every other value is taken.
+#![allow(dead_code)] // a caller need not use all of it
 
 /// The number of the header that these declarations follow: `version()` has to be it.
 pub const VERSION: u32 = 1;

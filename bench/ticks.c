@@ -1,6 +1,7 @@
-/* Ticks of a run through pilqandur.h, for bench/against: the same source is compiled with the header and the archive of each side.
- *   ticks KIND TASKS QUEUE GOES    QUEUE is 0 or as many requests as the queue takes
- * prints the least nanoseconds of a tick over so many goes, and a sum over what was recorded. */
+/* Ticks through pilqandur.h, for bench/against: the same source is compiled with the header and the archive of each side.
+ *   ticks KIND TASKS QUEUE GOES [calls]    QUEUE is 0 or as many requests as the queue takes
+ * prints the least nanoseconds of a tick over so many goes, of a run or, with `calls`, of ticks made one by one; and a sum over what was
+ * recorded. */
 #define _POSIX_C_SOURCE 199309L
 #include <stdio.h>
 #include <stdlib.h>
@@ -31,9 +32,24 @@ static struct pilqandur_table table_of(uint32_t kind, uint32_t n)
     return table;
 }
 
+/* TICKS ticks into the entries, by one run or one by one. */
+static int go(struct pilqandur_state state, int calls)
+{
+    if (!calls)
+        return pilqandur_run(state, TICKS, entries, TICKS).number == 0;
+    for (int i = 0; i < TICKS; i++) {
+        struct pilqandur_tick_result r = pilqandur_tick(state);
+        if (r.number != 0)
+            return 0;
+        entries[i] = (struct pilqandur_entry){r.kind, r.id, r.drops};
+        state = r.state;
+    }
+    return 1;
+}
+
 int main(int argc, char **argv)
 {
-    if (argc != 5)
+    if (argc != 5 && argc != 6)
         return 2;
     uint32_t kind = atoi(argv[1]), tasks = atoi(argv[2]);
     int full = atoi(argv[3]), goes = atoi(argv[4]);
@@ -47,9 +63,9 @@ int main(int argc, char **argv)
     unsigned long long sum = 0;
     for (int i = 0; i < goes; i++) {
         double begun = now();
-        struct pilqandur_moved_result r = pilqandur_run(start, TICKS, entries, TICKS);
+        int done = go(start, argc == 6);
         double took = now() - begun;
-        if (r.number != 0)
+        if (!done)
             return 1;
         if (took < best)
             best = took;

@@ -6,26 +6,29 @@
  *
  * What the caller has to see to:
  *
- *  - Outside the contract is one thing alone: a pointer that points to less than it says. `entries` points to `len` entries
- *    that nobody else reads or writes during the call. A list of no entries may be NULL: pilqandur_run(state, 0, NULL, 0) is
- *    a run of no ticks. The inline forms at the end are pointed to a state and a table, never NULL.
+ *  - No value of an argument is outside the contract but a pointer that points to less than it says: `entries` points to
+ *    `len` entries, aligned as C has them, that nobody else reads or writes during the call. A list of no entries may be
+ *    NULL: pilqandur_run(state, 0, NULL, 0) is a run of no ticks, and says of any state whether it is fit.
  *  - Header and archive belong together where pilqandur_version() is PILQANDUR_VERSION. Ask at the start, before any other
- *    call, and keep the number with a stored state.
+ *    call; if they differ, compile with the header that came with the archive. Store the number beside a state: a state of
+ *    another version cannot be taken up.
  *  - The caller's compiler and the library agree on the x86-64 System V calling convention, and the caller passes structs
  *    laid out as declared here. This is tested, not proved: tests/link compares the sizes and offsets of this header with
  *    those of the Rust declarations and runs a caller of each language; tests/run-calls compares every field of random
  *    states that went through the archive.
  *
  * A state is numbers alone, without pointers: it can be copied, stored and taken up again. Every pattern of bits is taken. A
- * state that breaks its limits, one with a flag that is neither 0 nor 1 among them, is refused with 11 and handed back as it
- * came. But 11 is no checksum: a state in which an id or a work was changed is still a state, and is run as one. Keep a
- * checksum beside a stored state (examples/c/saved.c does).
+ * state is fit if its table passes 1, 2 and 3, left[i] <= exec of each task in use, at most 64 wait, each with work 1 to 60,000
+ * and arrival <= clock, budget <= the server's, clock <= 4,000,000,000, tr and begin <= clock, nr <= 4,000,060,000, and each
+ * flag is 0 or 1. Any other is refused with 11 and handed back as it came. But 11 is no checksum: most states in which a bit
+ * was changed are still states, and are run as such: another id or work, another clock, even another table, which need not be
+ * the admitted one. Keep a checksum beside a stored state (examples/c/saved.c does).
  *
  * A run does not report what finished: make ticks one by one where the responses are wanted.
  *
  * No function keeps anything between calls, allocates or does input or output: the archive has no data of its own, and wants
  * only memcpy, memmove and memset of the C library. State goes in by value and comes back by value: two schedulers are two
- * states.
+ * states. The code uses SSE registers, as x86-64 code does. The header wants C99 or C++11.
  */
 #ifndef PILQANDUR_H
 #define PILQANDUR_H
@@ -43,13 +46,14 @@ extern "C" {
 /* The limits. Times are in ticks of 10 ms. */
 #define PILQANDUR_MAX_TASKS 16
 #define PILQANDUR_MAX_WAITING 64
-#define PILQANDUR_MAX_TIME 60000u        /* of a phase, a period, an execution, a deadline */
+#define PILQANDUR_MAX_TIME 60000u        /* of a phase, a period, an execution, a deadline, a server's period and budget */
 #define PILQANDUR_MAX_WORK 60000u        /* of a request */
 #define PILQANDUR_LAST_CLOCK 4000000000u /* at it no tick runs */
 
 /* Stack, in bytes: what each call takes at most, whatever its arguments, its return address included. `tools/stack` reads it
- * off the machine code and measures beside it. To it come what memcpy takes (8 bytes were seen) and, in the caller's frame,
- * the arguments and the result by value: a table is 276 bytes, a state 1,148. */
+ * off the machine code and measures beside it. To it come what memcpy, memmove and memset take (8 bytes were seen; where they
+ * are bound at their first call, the loader takes more there, once) and, in the caller's frame, the arguments and the result
+ * by value, twice with some compilers: README.md has figures with that. */
 #define PILQANDUR_STACK_SET_UP 656
 #define PILQANDUR_STACK_ADMIT 1360
 #define PILQANDUR_STACK_REQUEST 5376
@@ -67,7 +71,8 @@ extern "C" {
 #define PILQANDUR_TASK 1u
 #define PILQANDUR_REQUEST 2u
 
-/* Refusals, in `number`; 0 says that the call was carried out. A refused call hands back the state it was given. */
+/* Refusals, in `number`; 0 says that the call was carried out. A refused call hands back the state it was given. A call looks
+ * at its grounds in the order that is told below, and gives the first. */
 #define PILQANDUR_DONE 0u
 #define PILQANDUR_TASK_COUNT 1u     /* no task, or more than 16 */
 #define PILQANDUR_BAD_TASK 2u       /* a task breaks its limits; `index` is the first such */
@@ -79,7 +84,7 @@ extern "C" {
 #define PILQANDUR_BAD_LINE 8u
 #define PILQANDUR_LINE_MISPLACED 9u
 #define PILQANDUR_SHORT_RECORD 10u  /* fewer entries lent than ticks */
-#define PILQANDUR_UNFIT_STATE 11u   /* the state breaks its limits (docs/MANUAL.md lists them) */
+#define PILQANDUR_UNFIT_STATE 11u   /* the state is not fit: see above */
 
 /* A periodic task (a row of a plan). 1 <= exec <= deadline <= period <= 60,000, phase <= 60,000. */
 struct pilqandur_task {
@@ -122,14 +127,14 @@ struct pilqandur_progress {
     uint32_t clock;
 };
 
-/* id is the caller's own. */
-struct pilqandur_request {
+/* A request that waits. id is the caller's own. */
+struct pilqandur_waiting {
     uint32_t id, work, arrival;
 };
 
 /* The first n wait, the head first. */
 struct pilqandur_queue {
-    struct pilqandur_request requests[PILQANDUR_MAX_WAITING];
+    struct pilqandur_waiting requests[PILQANDUR_MAX_WAITING];
     uint32_t n;
 };
 
@@ -146,7 +151,7 @@ struct pilqandur_entry {
     uint32_t kind, id, drops;
 };
 
-/* index is 0 but for refusal 2. The state of a refused set-up is unfit: every later call refuses it. */
+/* index is 0 but for refusal 2. The state that a refused set-up gives is unfit: every later call refuses it. */
 struct pilqandur_set_up_result {
     uint32_t number, index;
     struct pilqandur_state state;
@@ -192,20 +197,21 @@ struct pilqandur_tick_result pilqandur_tick(struct pilqandur_state state);
 /* k ticks; the first k of the len lent entries are written, the others stay. Refuses with 11, 6, 10. */
 struct pilqandur_moved_result pilqandur_run(struct pilqandur_state state, uint32_t k, struct pilqandur_entry *entries, size_t len);
 
-/* ---- The same for a state that the caller keeps and hands out by its address. Each returns the number, and changes what it
- * is pointed to only where the call was carried out (number 0). index and ticked may be NULL. These forms are plain C over
- * the calls above, and take the stack of the arguments and the result besides. */
+/* ---- The same for a state that the caller keeps and hands out by its address: plain C over the calls above, tested and not
+ * proved. Each returns the number, and changes the state only where the call was carried out (number 0); a refused set-up, too,
+ * leaves the state that was there. Each reads *state, works on a copy and writes it back: nobody else may use *state meanwhile,
+ * no other thread and no interrupt. Let an interrupt note its request, and hand it in between two ticks. */
 
 /* What a tick says, without its state. */
 struct pilqandur_ticked {
     uint32_t kind, id, drops, finished, request, response;
 };
 
-/* The one thing that is written by a refused call: *index, where a refusal 2 (else 0) stands. */
+/* *index is always written: the first bad task for refusal 2, else 0. index may be NULL. */
 static inline uint32_t pilqandur_set_up_at(struct pilqandur_state *state, const struct pilqandur_table *table, uint32_t *index)
 {
     const struct pilqandur_set_up_result up = pilqandur_set_up(*table);
-    if (index != NULL)
+    if (index)
         *index = up.index;
     if (up.number == PILQANDUR_DONE)
         *state = up.state;
@@ -220,12 +226,13 @@ static inline uint32_t pilqandur_request_at(struct pilqandur_state *state, uint3
     return moved.number;
 }
 
+/* *ticked is written only where the call was carried out. ticked may be NULL. */
 static inline uint32_t pilqandur_tick_at(struct pilqandur_state *state, struct pilqandur_ticked *ticked)
 {
     const struct pilqandur_tick_result tick = pilqandur_tick(*state);
     if (tick.number == PILQANDUR_DONE) {
         *state = tick.state;
-        if (ticked != NULL) {
+        if (ticked) {
             ticked->kind = tick.kind;
             ticked->id = tick.id;
             ticked->drops = tick.drops;

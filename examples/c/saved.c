@@ -1,16 +1,26 @@
-/* A state kept over a power failure: saved with a checksum, and restored only if the record is whole. Every number that comes back is looked
- * at. The store is a record in memory here, where a device has battery-backed memory or flash. */
+/* A state kept over a power failure: saved with a checksum, and taken up again only if all is well. Every number that comes back is looked at.
+ *
+ * The store is a record in memory here, where a device has battery-backed memory or flash. A device keeps two records and writes them in
+ * turn, so that a power failure during a save leaves the other one whole. What was running when the power failed has lost its own data:
+ * `left` counts only what a job had of the processor. The clock has not counted the time without power. Whoever cannot live with that
+ * sets up anew instead. */
 #include <stdio.h>
 #include <stdlib.h>
 #include <string.h>
 
 #include "pilqandur.h"
 
-/* What is kept. The version says which header the state belongs to: its layout changes with the version. */
+/* What is kept. The version says which header the state belongs to: its layout changes with the version. The bytes are in the machine's own order. */
 struct record {
     uint32_t version;
     struct pilqandur_state state;
     uint32_t checksum;
+};
+
+static const struct pilqandur_table table = {
+    .tasks = {{.phase = 0, .period = 10, .exec = 2, .deadline = 5}, {.phase = 5, .period = 20, .exec = 3, .deadline = 20}},
+    .n = 2,
+    .server = {.kind = PILQANDUR_SPORADIC, .place = 1, .period = 20, .budget = 4},
 };
 
 /* CRC-32 (the polynomial 0xEDB88320) over all of the record but the checksum. Structs of 32-bit numbers have no gaps. */
@@ -33,13 +43,20 @@ static void save(struct record *record, const struct pilqandur_state *state)
     record->checksum = checksum_of(record);
 }
 
-/* 1 and the state, if the record is whole; 0, and *state as it was, if not. */
-static int restore(struct pilqandur_state *state, const struct record *record)
+/* Why a record is not taken up, or NULL and the state. A copy is looked at, so that what was looked at is what is taken. */
+static const char *restore(struct pilqandur_state *state, const struct record *store)
 {
-    if (record->version != PILQANDUR_VERSION || record->checksum != checksum_of(record))
-        return 0;
-    *state = record->state;
-    return 1;
+    const struct record record = *store;
+    if (record.version != PILQANDUR_VERSION)
+        return "another version";
+    if (record.checksum != checksum_of(&record))
+        return "a wrong checksum";
+    if (memcmp(&record.state.table, &table, sizeof table) != 0)
+        return "another table"; /* the one that was admitted is the one to run */
+    if (pilqandur_run(record.state, 0, NULL, 0).number != PILQANDUR_DONE)
+        return "an unfit state"; /* it was damaged before it was saved */
+    *state = record.state;
+    return NULL;
 }
 
 /* A call that was to be carried out. */
@@ -53,11 +70,6 @@ static void done(const char *call, uint32_t number)
 
 static void set_up(struct pilqandur_state *state)
 {
-    static const struct pilqandur_table table = {
-        .tasks = {{.phase = 0, .period = 10, .exec = 2, .deadline = 5}, {.phase = 5, .period = 20, .exec = 3, .deadline = 20}},
-        .n = 2,
-        .server = {.kind = PILQANDUR_SPORADIC, .place = 1, .period = 20, .budget = 4},
-    };
     const struct pilqandur_admission_result admission = pilqandur_admit(table);
     done("admit", admission.number);
     if (!admission.admitted) {
@@ -82,16 +94,14 @@ static void ticks(struct pilqandur_state *state, int count)
 }
 
 /* What the next start does with a record. */
-static void start(const char *what, const struct record *record)
+static void start(const char *what, const struct record *store)
 {
     struct pilqandur_state state;
-    if (restore(&state, record)) {
-        printf("%s: restored at tick %u\n", what, (unsigned)state.progress.clock);
-        ticks(&state, 20);
-    } else {
+    const char *fault = restore(&state, store);
+    if (fault != NULL)
         set_up(&state);
-        printf("%s: the record is damaged, set up anew at tick %u\n", what, (unsigned)state.progress.clock);
-    }
+    printf("%s: %s%s at tick %u\n", what, fault != NULL ? fault : "restored", fault != NULL ? ", set up anew" : "", (unsigned)state.progress.clock);
+    ticks(&state, 20);
 }
 
 int main(void)
@@ -120,11 +130,18 @@ int main(void)
     start("a changed id", &changed);
 
     /* A flag that is neither 0 nor 1: unfit. The call says 11 and leaves the state alone. */
-    changed = record;
-    changed.state.progress.server.sporadic.busy ^= 0x00010000u;
-    other = changed.state;
+    other = state;
+    other.progress.server.sporadic.busy ^= 0x00010000u;
+    const struct pilqandur_state before = other;
     printf("a changed flag: tick answers %u", (unsigned)pilqandur_tick_at(&other, NULL));
-    printf(", the state is %s\n", memcmp(&other, &changed.state, sizeof other) == 0 ? "as it came" : "changed");
-    start("a changed flag", &changed);
+    printf(", the state is %s\n", memcmp(&other, &before, sizeof other) == 0 ? "as it came" : "changed");
+    save(&changed, &other);
+    start("a changed flag, saved with a right checksum", &changed);
+
+    /* A record of earlier firmware. */
+    other = state;
+    other.table.tasks[1].exec = 4;
+    save(&changed, &other);
+    start("a record of another table", &changed);
     return 0;
 }

@@ -28,8 +28,8 @@ fn main() {
     let mut entries = [Entry::default(); 3];
     let ran = run(up.state, 3, &mut entries);
     assert_eq!(ran.number, DONE);
-    for (t, entry) in entries.into_iter().enumerate() {
-        show(t as u32, entry);
+    for (t, entry) in entries.iter().enumerate() {
+        show(t as u32, *entry);
     }
 
     let asked = present(ran.state, 7, 4);

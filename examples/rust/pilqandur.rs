@@ -5,6 +5,13 @@
 /// The number of the header that these declarations follow: `version()` has to be it.
 pub const VERSION: u32 = 1;
 
+/// The limits. Times are in ticks of 10 ms.
+pub const MAX_TASKS: u32 = 16;
+pub const MAX_WAITING: u32 = 64;
+pub const MAX_TIME: u32 = 60000;
+pub const MAX_WORK: u32 = 60000;
+pub const LAST_CLOCK: u32 = 4000000000;
+
 /// Kinds of a server.
 pub const BACKGROUND: u32 = 0;
 pub const POLLING: u32 = 1;
@@ -24,6 +31,9 @@ pub const BAD_SERVER: u32 = 3;
 pub const BAD_WORK: u32 = 4;
 pub const QUEUE_FULL: u32 = 5;
 pub const CLOCK_SPENT: u32 = 6;
+pub const PLAN_TOO_LONG: u32 = 7;
+pub const BAD_LINE: u32 = 8;
+pub const LINE_MISPLACED: u32 = 9;
 pub const SHORT_RECORD: u32 = 10;
 pub const UNFIT_STATE: u32 = 11;
 
@@ -80,9 +90,10 @@ pub struct Progress {
     pub clock: u32,
 }
 
+/// A request that waits.
 #[repr(C)]
 #[derive(Clone, Copy, Debug, Default, PartialEq, Eq)]
-pub struct Request {
+pub struct Waiting {
     pub id: u32,
     pub work: u32,
     pub arrival: u32,
@@ -91,7 +102,7 @@ pub struct Request {
 #[repr(C)]
 #[derive(Clone, Copy, Debug, PartialEq, Eq)]
 pub struct Queue {
-    pub requests: [Request; 64],
+    pub requests: [Waiting; 64],
     pub n: u32,
 }
 
@@ -149,7 +160,7 @@ pub struct TickResult {
     pub state: State,
 }
 
-extern "C" {
+unsafe extern "C" {
     fn pilqandur_version() -> u32;
     fn pilqandur_set_up(table: Table) -> SetUpResult;
     fn pilqandur_admit(table: Table) -> AdmissionResult;

@@ -1,5 +1,7 @@
 /* The inline forms of include/pilqandur.h beside the calls that they stand for, on states that are run on, full, damaged and at the last
- * clock: the same number; where it is 0, the same state, record and entries; where it is not, nothing changed. Ends with 1 at the first fault. */
+ * clock: the same number; where it is 0, the same state, record and entries; where it is not, nothing changed. (A refused call hands the state
+ * back as it came, so that a form that always copies it back would pass: the test in the form only spares the copy.) And each number and
+ * limit of the header by a call that gives it, at its edge. Ends with 1 at the first fault. */
 #include <stdio.h>
 #include <stdlib.h>
 #include <string.h>
@@ -24,8 +26,8 @@ static int same(const void *a, const void *b, size_t size)
 }
 
 /* The number is the call's, and the state the call's or the one before. */
-static void same_end(const char *what, uint32_t number, uint32_t by_call, const struct pilqandur_state *state, const struct pilqandur_state *before,
-                     const struct pilqandur_state *after)
+static void same_end(const char *what, uint32_t number, uint32_t by_call, const struct pilqandur_state *state,
+                     const struct pilqandur_state *before, const struct pilqandur_state *after)
 {
     expect(number == by_call, what);
     expect(same(state, number == PILQANDUR_DONE ? after : before, sizeof *state), what);
@@ -92,10 +94,80 @@ static void all(struct pilqandur_state *state)
     run(state, 1, 0);
 }
 
+static const struct pilqandur_table plain = {.tasks = {{0, 10, 2, 5}, {5, 20, 3, 20}}, .n = 2, .server = {PILQANDUR_SPORADIC, 1, 20, 4}};
+
+static uint32_t set_up_number(struct pilqandur_table table)
+{
+    return pilqandur_set_up(table).number;
+}
+
+/* Refusals 1, 2 and 3, the limits of a table, and the kinds of a server by what they do. */
+static void table_numbers(void)
+{
+    struct pilqandur_table t = {.n = PILQANDUR_MAX_TASKS, .server = {PILQANDUR_BACKGROUND, PILQANDUR_MAX_TASKS, 0, 0}};
+    for (uint32_t i = 0; i < PILQANDUR_MAX_TASKS; i++)
+        t.tasks[i] = (struct pilqandur_task){PILQANDUR_MAX_TIME, PILQANDUR_MAX_TIME, PILQANDUR_MAX_TIME, PILQANDUR_MAX_TIME};
+    expect(set_up_number(t) == PILQANDUR_DONE, "a table at its limits");
+    t.n++;
+    expect(set_up_number(t) == PILQANDUR_TASK_COUNT, "MAX_TASKS, TASK_COUNT");
+    t.n--;
+    t.tasks[1].phase++;
+    expect(set_up_number(t) == PILQANDUR_BAD_TASK && pilqandur_set_up(t).index == 1, "MAX_TIME, BAD_TASK");
+    t = plain;
+    t.server.budget = t.server.period = PILQANDUR_MAX_TIME;
+    expect(set_up_number(t) == PILQANDUR_DONE, "a server at its limits");
+    t.server.period++;
+    expect(set_up_number(t) == PILQANDUR_BAD_SERVER, "MAX_TIME, BAD_SERVER");
+    t = plain;
+    t.server.kind = PILQANDUR_SPORADIC + 1;
+    expect(set_up_number(t) == PILQANDUR_BAD_SERVER, "SPORADIC is the last kind");
+}
+
+/* document 01's marked cases: the responses of one request under each kind of server */
+static void kind_responses(void)
+{
+    const uint32_t kinds[4] = {PILQANDUR_BACKGROUND, PILQANDUR_POLLING, PILQANDUR_DEFERRABLE, PILQANDUR_SPORADIC}, responses[4] = {6, 9, 4, 7};
+    for (int i = 0; i < 4; i++) {
+        struct pilqandur_table t = {.tasks = {{3, 6, 2, 6}}, .n = 1, .server = {kinds[i], 0, 5, 2}};
+        if (kinds[i] == PILQANDUR_BACKGROUND)
+            t.server = (struct pilqandur_server){kinds[i], 1, 0, 0};
+        struct pilqandur_state s = pilqandur_set_up(t).state;
+        struct pilqandur_ticked ticked = {0, 0, 0, 0, 0, 0};
+        for (uint32_t tick = 0; !ticked.finished && tick < 20; tick++) {
+            if (tick == 3)
+                expect(pilqandur_request_at(&s, 7, 4) == PILQANDUR_DONE, "a request");
+            expect(pilqandur_tick_at(&s, &ticked) == PILQANDUR_DONE, "a tick");
+            expect(tick >= 3 || ticked.kind == PILQANDUR_IDLE, "IDLE");
+            expect(!ticked.finished || ticked.kind == PILQANDUR_REQUEST, "REQUEST");
+        }
+        expect(ticked.response == responses[i], "a kind of server");
+    }
+}
+
+/* Refusals 4, 5, 6 and 10, and the limits of a state. */
+static void state_numbers(void)
+{
+    struct pilqandur_state s = pilqandur_set_up(plain).state;
+    expect(pilqandur_tick(s).kind == PILQANDUR_TASK, "TASK");
+    expect(pilqandur_request(s, 1, PILQANDUR_MAX_WORK).number == PILQANDUR_DONE, "work at its limit");
+    expect(pilqandur_request(s, 1, PILQANDUR_MAX_WORK + 1).number == PILQANDUR_BAD_WORK, "MAX_WORK, BAD_WORK");
+    expect(pilqandur_run(s, 1, NULL, 0).number == PILQANDUR_SHORT_RECORD, "SHORT_RECORD");
+    for (int i = 0; i < PILQANDUR_MAX_WAITING; i++)
+        expect(pilqandur_request_at(&s, 1, 1) == PILQANDUR_DONE, "a queue below its limit");
+    expect(pilqandur_request(s, 1, 1).number == PILQANDUR_QUEUE_FULL, "MAX_WAITING, QUEUE_FULL");
+    s.progress.clock = PILQANDUR_LAST_CLOCK - 1;
+    expect(pilqandur_tick_at(&s, NULL) == PILQANDUR_DONE && pilqandur_tick(s).number == PILQANDUR_CLOCK_SPENT, "LAST_CLOCK, CLOCK_SPENT");
+    s.progress.clock++;
+    expect(pilqandur_tick(s).number == PILQANDUR_UNFIT_STATE, "LAST_CLOCK, UNFIT_STATE");
+}
+
 int main(void)
 {
     expect(pilqandur_version() == PILQANDUR_VERSION, "header and archive are of two versions");
-    struct pilqandur_table table = {.tasks = {{0, 10, 2, 5}, {5, 20, 3, 20}}, .n = 2, .server = {PILQANDUR_SPORADIC, 1, 20, 4}};
+    table_numbers();
+    kind_responses();
+    state_numbers();
+    struct pilqandur_table table = plain;
     struct pilqandur_state state;
     memset(&state, 0xee, sizeof state);
     table.tasks[1].exec = 0;
@@ -119,8 +191,11 @@ int main(void)
     }
     state.progress.clock = PILQANDUR_LAST_CLOCK;
     all(&state);
-    for (int number = 2; number <= 11; number++)
-        expect(refused[number] > 0 || number == 3 || (number >= 7 && number <= 9), "a number that was to be met was not");
-    printf("forms: %u inline forms carried out, %u refused with 11, each as the call that it stands for\n", carried_out, refused[11]);
+    const unsigned met[] = {PILQANDUR_BAD_TASK,    PILQANDUR_BAD_WORK,     PILQANDUR_QUEUE_FULL,
+                            PILQANDUR_CLOCK_SPENT, PILQANDUR_SHORT_RECORD, PILQANDUR_UNFIT_STATE};
+    for (size_t i = 0; i < sizeof met / sizeof met[0]; i++)
+        expect(refused[met[i]] > 0, "a refusal that the forms were to meet was not met");
+    printf("forms: %u inline forms carried out, %u refused with 11, each as the call that it stands for\n", carried_out,
+           refused[PILQANDUR_UNFIT_STATE]);
     return 0;
 }

@@ -1,9 +1,10 @@
-/* Prints the size of each struct that crosses the boundary and the offset of each of its fields, as C has them. */
+/* Prints the size of each struct that crosses the boundary, the offset of each of its fields, and each number, as C has them. */
 #include <stdio.h>
 
 #include "pilqandur.h"
 
 #define SIZE(s) printf(#s " %zu\n", sizeof(struct pilqandur_##s))
+#define NUMBER(n) printf(#n " %lu\n", (unsigned long)PILQANDUR_##n)
 #define AT(s, f) printf(#s "." #f " %zu\n", offsetof(struct pilqandur_##s, f))
 
 int main(void)
@@ -37,10 +38,10 @@ int main(void)
     AT(progress, left);
     AT(progress, server);
     AT(progress, clock);
-    SIZE(request);
-    AT(request, id);
-    AT(request, work);
-    AT(request, arrival);
+    SIZE(waiting);
+    AT(waiting, id);
+    AT(waiting, work);
+    AT(waiting, arrival);
     SIZE(queue);
     AT(queue, requests);
     AT(queue, n);
@@ -74,5 +75,29 @@ int main(void)
     AT(tick_result, request);
     AT(tick_result, response);
     AT(tick_result, state);
+    NUMBER(MAX_TASKS);
+    NUMBER(MAX_WAITING);
+    NUMBER(MAX_TIME);
+    NUMBER(MAX_WORK);
+    NUMBER(LAST_CLOCK);
+    NUMBER(BACKGROUND);
+    NUMBER(POLLING);
+    NUMBER(DEFERRABLE);
+    NUMBER(SPORADIC);
+    NUMBER(IDLE);
+    NUMBER(TASK);
+    NUMBER(REQUEST);
+    NUMBER(DONE);
+    NUMBER(TASK_COUNT);
+    NUMBER(BAD_TASK);
+    NUMBER(BAD_SERVER);
+    NUMBER(BAD_WORK);
+    NUMBER(QUEUE_FULL);
+    NUMBER(CLOCK_SPENT);
+    NUMBER(PLAN_TOO_LONG);
+    NUMBER(BAD_LINE);
+    NUMBER(LINE_MISPLACED);
+    NUMBER(SHORT_RECORD);
+    NUMBER(UNFIT_STATE);
     return 0;
 }

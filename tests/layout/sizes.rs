@@ -1,4 +1,4 @@
-//! Prints the size of each struct that crosses the boundary and the offset of each of its fields, as Rust has them.
+//! Prints the size of each struct that crosses the boundary, the offset of each of its fields, and each number, as Rust has them.
 
 #[path = "../../examples/rust/pilqandur.rs"]
 mod pilqandur;
@@ -14,6 +14,12 @@ macro_rules! layout {
     };
 }
 
+macro_rules! numbers {
+    ($($name:ident)*) => {
+        $(println!("{} {}", stringify!($name), $name);)*
+    };
+}
+
 fn main() {
     layout!("task", Task, phase period exec deadline);
     layout!("server", Server, kind place period budget);
@@ -21,7 +27,7 @@ fn main() {
     layout!("sporadic", Sporadic, tr begin nr served late above busy);
     layout!("server_state", ServerState, budget sporadic);
     layout!("progress", Progress, left server clock);
-    layout!("request", Request, id work arrival);
+    layout!("waiting", Waiting, id work arrival);
     layout!("queue", Queue, requests n);
     layout!("state", State, table progress queue);
     layout!("entry", Entry, kind id drops);
@@ -29,4 +35,7 @@ fn main() {
     layout!("admission_result", AdmissionResult, number index bounds serverbound admitted);
     layout!("moved_result", MovedResult, number state);
     layout!("tick_result", TickResult, number kind id drops finished request response state);
+    numbers!(MAX_TASKS MAX_WAITING MAX_TIME MAX_WORK LAST_CLOCK BACKGROUND POLLING DEFERRABLE SPORADIC IDLE TASK REQUEST);
+    numbers!(DONE TASK_COUNT BAD_TASK BAD_SERVER BAD_WORK QUEUE_FULL CLOCK_SPENT PLAN_TOO_LONG BAD_LINE LINE_MISPLACED);
+    numbers!(SHORT_RECORD UNFIT_STATE);
 }

@@ -1,5 +1,6 @@
-/* Prints how much stack each call was seen to take, return address included, and how many bytes are passed by value: arguments and
- * result. Each call goes through a door that notes the stack pointer and jumps on; the stack below was painted before. For tools/stack. */
+/* Prints how much stack each call was seen to take, return address included; how much a function was seen to take that makes the call by its
+ * inline form and does nothing else; and how many bytes are passed by value: arguments and result. Each call goes through a door that notes the
+ * stack pointer and jumps on; the stack below was painted before. For tools/stack. */
 #include <stdio.h>
 #include <stdlib.h>
 #include <ucontext.h>
@@ -12,11 +13,12 @@
 
 static uint32_t stack[ROOM / 4];
 static ucontext_t home, away;
+static uintptr_t form_at;
 uintptr_t door_at;
 
 #define DOOR(name) \
     __asm__(".text\ndoor_" #name ":\n\tmov %rsp, door_at(%rip)\n\tjmp pilqandur_" #name "\n"); \
-    static uintptr_t most_##name
+    static uintptr_t most_##name, most_form_##name
 
 DOOR(set_up);
 DOOR(admit);
@@ -30,25 +32,46 @@ struct pilqandur_moved_result door_request(struct pilqandur_state state, uint32_
 struct pilqandur_tick_result door_tick(struct pilqandur_state state);
 struct pilqandur_moved_result door_run(struct pilqandur_state state, uint32_t k, struct pilqandur_entry *entries, size_t len);
 
-/* Paints the stack from its far end up to this function's own frame, which has nothing below it. */
+/* Paints the stack from its far end up to a little below this function's own frame, where its locals may lie. */
 static __attribute__((noinline)) void paint(void)
 {
     uint32_t *here = __builtin_frame_address(0);
-    for (volatile uint32_t *p = stack; (uint32_t *)p < here - 2; p++)
+    for (volatile uint32_t *p = stack; (uint32_t *)p < here - 16; p++)
         *p = PAINT;
 }
 
-static __attribute__((noinline)) void look(uintptr_t *most)
+/* The most that was used below `top`. */
+static __attribute__((noinline)) void look(uintptr_t *most, uintptr_t top)
 {
     const uint32_t *p = stack;
     while (*p == PAINT)
         p++;
-    uintptr_t used = door_at + sizeof(uintptr_t) - (uintptr_t)p;
+    uintptr_t used = top - (uintptr_t)p;
     if (used > *most)
         *most = used;
 }
 
-#define MEASURED(name, call) (paint(), call, look(&most_##name))
+#define MEASURED(name, call) (paint(), call, look(&most_##name, door_at + sizeof(uintptr_t)))
+#define FORM(name) (paint(), form_##name(), look(&most_form_##name, form_at))
+
+/* Functions that make one call and nothing else: what they take, their own return address included. */
+static struct pilqandur_table form_table;
+static struct pilqandur_state form_state;
+static struct pilqandur_entry form_entries[TICKS];
+static volatile uint32_t form_number;
+
+#define FORM_OF(name, call) \
+    static __attribute__((noinline)) void form_##name(void) \
+    { \
+        form_at = (uintptr_t)__builtin_frame_address(0) + 2 * sizeof(uintptr_t); \
+        form_number = call; \
+    }
+
+FORM_OF(set_up, pilqandur_set_up_at(&form_state, &form_table, NULL))
+FORM_OF(admit, pilqandur_admit(form_table).number)
+FORM_OF(request, pilqandur_request_at(&form_state, 1, 1))
+FORM_OF(tick, pilqandur_tick_at(&form_state, NULL))
+FORM_OF(run, pilqandur_run_at(&form_state, TICKS, form_entries, TICKS))
 
 static uint32_t below(uint32_t n)
 {
@@ -61,11 +84,11 @@ static struct pilqandur_table any_table(void)
     for (uint32_t i = 0; i < t.n; i++) {
         uint32_t period = 4 + below(60), deadline = 1 + below(period);
         t.tasks[i] = (struct pilqandur_task){below(20), period, 1 + below(deadline < 5 ? deadline : 5), deadline};
-        if (t.tasks[i].exec > deadline)
-            t.tasks[i].exec = deadline;
     }
-    uint32_t kind = below(4), period = 2 + below(20);
-    t.server = kind == PILQANDUR_BACKGROUND ? (struct pilqandur_server){kind, t.n, 0, 0} : (struct pilqandur_server){kind, below(t.n + 1), period, 1 + below(period)};
+    uint32_t kind = below(PILQANDUR_SPORADIC + 1), period = 2 + below(20);
+    t.server = (struct pilqandur_server){kind, below(t.n + 1), period, 1 + below(period)};
+    if (kind == PILQANDUR_BACKGROUND)
+        t.server = (struct pilqandur_server){kind, t.n, 0, 0};
     return t;
 }
 
@@ -90,6 +113,14 @@ static void one_table(void)
     }
     state.progress.server.sporadic.busy = 2;
     MEASURED(tick, tick = door_tick(state));
+    form_table = table;
+    FORM(set_up);
+    FORM(admit);
+    for (int i = 0; i < 5; i++) {
+        FORM(request);
+        FORM(tick);
+        FORM(run);
+    }
 }
 
 static void work(void)
@@ -109,7 +140,7 @@ int main(void)
     swapcontext(&home, &away);
 
     const size_t state = sizeof(struct pilqandur_state), table = sizeof(struct pilqandur_table);
-#define SAY(name, passed) printf("pilqandur_" #name " %zu %zu\n", (size_t)most_##name, (size_t)(passed))
+#define SAY(name, passed) printf("pilqandur_" #name " %zu %zu %zu\n", (size_t)most_##name, (size_t)most_form_##name, (size_t)(passed))
     SAY(set_up, table + sizeof(struct pilqandur_set_up_result));
     SAY(admit, table + sizeof(struct pilqandur_admission_result));
     SAY(request, state + sizeof(struct pilqandur_moved_result));

@@ -15,6 +15,7 @@ use Rattle.capi.specs.declared.boundary.CState.{CState}
 abbrev pub areFlags : CSporadic → Bool
 areFlags x = leb (x .served) 1 && leb (x .late) 1 && leb (x .above) 1 && leb (x .busy) 1
 
+-- of the state that C holds
 abbrev pub flagsFit : CState → Bool
 flagsFit s = areFlags (s .progress .server .sporadic)
 
@@ -22,7 +23,7 @@ flagsFit s = areFlags (s .progress .server .sporadic)
 abbrev pub flagOf : ℕ → Bool
 flagOf n = eqb n 1
 
--- the part with the flags, from C and to C
+-- the part with the flags, from C's numbers
 abbrev pub sporadicFrom : CSporadic → Sporadic
 sporadicFrom x = record {
   tr = x .tr;
@@ -34,6 +35,7 @@ sporadicFrom x = record {
   busy = flagOf (x .busy);
 }
 
+-- and in C's numbers
 abbrev pub sporadicTo : Sporadic → CSporadic
 sporadicTo x = record {
   tr = x .tr;
@@ -45,7 +47,7 @@ sporadicTo x = record {
   busy = bitOf (x .busy);
 }
 
--- the state that C's numbers stand for, and a state in C's numbers
+-- the state that C's numbers stand for
 abbrev pub stateFrom : CState → State
 stateFrom s = record {
   table = s .table;
@@ -57,6 +59,7 @@ stateFrom s = record {
   queue = s .queue;
 }
 
+-- what every tick changes, in C's numbers
 abbrev pub progressTo : Progress → CProgress
 progressTo x = record {
   left = x .left;
@@ -64,13 +67,17 @@ progressTo x = record {
   clock = x .clock;
 }
 
+-- a state in C's numbers
 abbrev pub stateTo : State → CState
 stateTo s = record { table = s .table; progress = progressTo (s .progress); queue = s .queue }
 
--- ---- how the code makes one refusal of both: a state whose flags do not fit is taken as one past the last clock, which is unfit
+-- ---- How the code makes one refusal of both: a state whose flags do not fit is taken as one past the last clock, which is unfit. No promise of a
+-- call speaks of these. Where one has two forms, the first has the test as an argument, so that a proof can look at each case.
+-- the clock of the state that is taken
 abbrev pub clockTaken : Bool → ℕ → ℕ
 clockTaken fits clock = cond fits clock (lastClock + 1)
 
+-- the state that is taken
 abbrev pub takenIf : Bool → CState → State
 takenIf fits s = record {
   table = s .table;
@@ -85,13 +92,14 @@ takenIf fits s = record {
 abbrev pub taken : CState → State
 taken s = takenIf (flagsFit s) s
 
--- what is handed back of it, given the state after the call: that state, with the progress as it came where the flags do not fit
+-- what is handed back of the progress, given the one after the call: that one, or the one that came where the flags do not fit
 abbrev pub progressIf : Bool → CProgress → Progress → CProgress
 progressIf fits x next = cond fits (progressTo next) x
 
 abbrev pub progressBack : CProgress → Progress → CProgress
 progressBack x next = progressIf (areFlags (x .server .sporadic)) x next
 
+-- what is handed back of the state: the rest is as the call leaves it, and a refused call leaves it as it came
 abbrev pub handedIf : Bool → CState → State → CState
 handedIf fits s next = record { table = next .table; progress = progressIf fits (s .progress) (next .progress); queue = next .queue }
 

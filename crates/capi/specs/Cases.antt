@@ -6,15 +6,18 @@ use mathlib.Core.List.{List, [], _∷_}
 use Rattle.queue.specs.declared.Finish.{Finish}
 use Rattle.table.specs.declared.Checked.{Checked}
 use Rattle.table.specs.declared.Refusal.{Refusal}
+use Rattle.queue.specs.declared.Queue.{Queue}
+use Rattle.table.specs.declared.Table.{Table}
 use Rattle.table.specs.declared.State.{State}
 use Rattle.table.specs.Refusal.{Figures, figures}
 use Rattle.rules.specs.declared.Occupant.{Occupant}
 use Rattle.rules.specs.declared.TickAnswer.{TickAnswer}
 use Rattle.rules.specs.declared.Entry.{Entry}
+use Rattle.rules.specs.Calls.{runList}
 use Rattle.rules.specs.Figures.{TickFigures, answerFigures}
 use Rattle.capi.specs.declared.boundary.CSporadic.{CSporadic}
 use Rattle.capi.specs.declared.boundary.CState.{CState}
-use Rattle.capi.specs.Boundary.{areFlags, sporadicFrom, sporadicTo, stateTo}
+use Rattle.capi.specs.Boundary.{areFlags, sporadicFrom, sporadicTo, stateFrom, stateTo}
 use Rattle.capi.specs.Results.{setUpResult, admissionResult, movedAt, movedResult, lentAfter, tickAt, tickResult}
 
 module _ (s : State) where
@@ -110,3 +113,38 @@ module _ (s : CState) (f : Figures) (x : TickFigures) (next : State) (k : ℕ) (
 
   list-damaged : lentAfter damaged k lent ≡ lent
   list-damaged = refl
+
+-- ---- a state with flags that fit: each number in its place, and the call's own answer
+module _ (t : Table) (q : Queue) (f : Figures) (x : TickFigures) (next : State) (k : ℕ) (lent : List Entry) where
+  abbrev whole : CState
+  whole = record {
+    table = t;
+    progress = record { left = 7 ∷ 8 ∷ []; server = record { budget = 9; sporadic = flags 1 0 0 1 }; clock = 10 };
+    queue = q;
+  }
+
+  abbrev meant : State
+  meant = record {
+    table = t;
+    progress = record {
+      left = 7 ∷ 8 ∷ [];
+      server = record { budget = 9; sporadic = record { tr = 3; begin = 4; nr = 5; served = true; late = false; above = false; busy = true } };
+      clock = 10;
+    };
+    queue = q;
+  }
+
+  from : stateFrom whole ≡ meant
+  from = refl
+
+  to : stateTo meant ≡ whole
+  to = refl
+
+  moved-whole : movedResult whole f next ≡ record { number = f .number; state = stateTo next }
+  moved-whole = refl
+
+  tick-whole : tickResult whole x next ≡ tickAt x (stateTo next)
+  tick-whole = refl
+
+  list-whole : lentAfter whole k lent ≡ runList meant k lent
+  list-whole = refl

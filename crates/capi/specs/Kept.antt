@@ -6,7 +6,7 @@ use mathlib.Core.Bool.{Bool, true, false, cond, _&&_}
 use lib.Dec.{leb}
 use borrow.Author.Tests.{leb-true}
 use Rattle.lists.specs.Numbers.{bitOf}
-use Rattle.lists.specs.Tests.{and-split, never}
+use Rattle.lists.specs.Tests.{and-split}
 use Rattle.server.specs.declared.Sporadic.{Sporadic}
 use Rattle.table.specs.declared.Checked.{Checked}
 use Rattle.table.specs.declared.State.{State}
@@ -46,8 +46,8 @@ sporadic-back x e =
     }
 
 -- ---- a state there and back
-pub back : (s : CState) → flagsFit s ≡ true → stateTo (stateFrom s) ≡ s
-back s e = λ j. record {
+pub state-back : (s : CState) → flagsFit s ≡ true → stateTo (stateFrom s) ≡ s
+state-back s e = λ j. record {
   table = s .table;
   progress = record {
     left = s .progress .left;
@@ -57,8 +57,8 @@ back s e = λ j. record {
   queue = s .queue;
 }
 
-pub there : (s : State) → stateFrom (stateTo s) ≡ s
-there s = λ j. record {
+pub state-there : (s : State) → stateFrom (stateTo s) ≡ s
+state-there s = λ j. record {
   table = s .table;
   progress = record {
     left = s .progress .left;
@@ -89,7 +89,7 @@ moved-kept s f c next ef = by (flagsFit s) refl c ef
         cond fits (movedAt (f .number) (stateTo (cond (passed c) next (stateFrom s)))) (movedAt 11 s) .state ≡ s
     by false e c ef h = refl
     by true e Checked.Passed ef h = let none : 0 ≡ f .number = ap (λ (x : Figures). x .number) ef in absurd (omega arith)
-    by true e (Checked.Refused r) ef h = back s e
+    by true e (Checked.Refused r) ef h = state-back s e
 
 pub request-kept : (s : CState) (id work : ℕ) → let r : MovedResult = movedResult s (requestFigures (stateFrom s) work) (requestCall (stateFrom s) id work .state) in
     1 ≤ r .number → r .state ≡ s
@@ -108,4 +108,4 @@ tick-kept s = by (flagsFit s) refl (ticksCheck (stateFrom s) 1) (tickFigures (st
         cond fits (tickAt f (stateTo (tickBy c (stateFrom s) .state))) (tickAt (refusedFigures 11) s) .state ≡ s
     by false e c f ef h = refl
     by true e Checked.Passed f ef h = let none : 0 ≡ f .number = ap (λ (x : TickFigures). x .number) ef in absurd (omega arith)
-    by true e (Checked.Refused r) f ef h = back s e
+    by true e (Checked.Refused r) f ef h = state-back s e

@@ -66,10 +66,11 @@ tickAt f s = record {
 abbrev pub tickResult : CState → TickFigures → State → TickResult
 tickResult s f next = cond (flagsFit s) (tickAt f (stateTo next)) (tickAt (refusedFigures 11) s)
 
--- what a tick finished, as the code holds it, and the same in figures
+-- what a tick finished, as the code holds it
 abbrev pub doneBy : Finish → Done
 doneBy f = record { finished = finishFigures f .finished; request = finishFigures f .id; response = finishFigures f .response }
 
+-- back from what the code holds
 abbrev pub figuresBy : Done → FinishFigures
 figuresBy d = record { finished = d .finished; id = d .request; response = d .response }
 

@@ -9,6 +9,7 @@ use table::Progress;
 use table::State;
 use table::Table;
 
+// What only a simple sporadic server keeps, the flags as numbers.
 #[repr(C)]
 pub struct CSporadic {
     pub tr: u32,
@@ -20,12 +21,14 @@ pub struct CSporadic {
     pub busy: u32,
 }
 
+// What a tick changes of a server.
 #[repr(C)]
 pub struct CServerState {
     pub budget: u32,
     pub sporadic: CSporadic,
 }
 
+// What every tick changes.
 #[repr(C)]
 pub struct CProgress {
     pub left: [u32; Table::MAX_TASKS as usize],
@@ -33,6 +36,7 @@ pub struct CProgress {
     pub clock: u32,
 }
 
+// The state: table and queue are numbers already.
 #[repr(C)]
 pub struct CState {
     pub table: Table,
@@ -48,7 +52,8 @@ impl CSporadic {
         (self.served <= 1) & (self.late <= 1) & (self.above <= 1) & (self.busy <= 1)
     }
 
-    fn inward(self) -> Sporadic
+    // With the flags as bools.
+    fn from_c(self) -> Sporadic
         ensures { λ r. ⌜ r ≡ sporadicFrom self ⌝ }
     {
         Sporadic {
@@ -63,7 +68,8 @@ impl CSporadic {
     }
 }
 
-fn outward(x: Sporadic) -> CSporadic
+// With the flags as numbers.
+fn sporadic_to(x: Sporadic) -> CSporadic
     ensures { λ r. ⌜ r ≡ sporadicTo x ⌝ }
 {
     CSporadic {
@@ -104,7 +110,7 @@ impl CState {
                 left,
                 server: ServerState {
                     budget: server.budget,
-                    sporadic: sporadic.inward(),
+                    sporadic: sporadic.from_c(),
                 },
                 clock: clock_taken(sporadic.are_flags(), progress.clock),
             },
@@ -130,19 +136,21 @@ impl CState {
 }
 
 impl CProgress {
+    // The progress after the call, or this one as it came where a flag is neither 0 nor 1.
     fn handed_back(self, next: Progress) -> CProgress
         ensures { λ r. ⌜ r ≡ progressBack self next ⌝ }
     {
         let server = self.server;
         let sporadic = server.sporadic;
         if sporadic.are_flags() {
-            return progress_to_c(next);
+            return progress_to(next);
         }
         self
     }
 }
 
-fn progress_to_c(progress: Progress) -> CProgress
+// A progress in numbers.
+fn progress_to(progress: Progress) -> CProgress
     ensures { λ r. ⌜ r ≡ progressTo progress ⌝ }
 {
     let left = progress.left;
@@ -152,14 +160,14 @@ fn progress_to_c(progress: Progress) -> CProgress
         left,
         server: CServerState {
             budget: server.budget,
-            sporadic: outward(sporadic),
+            sporadic: sporadic_to(sporadic),
         },
         clock: progress.clock,
     }
 }
 
 // A state in numbers.
-pub fn to_c(state: State) -> CState
+pub fn state_to(state: State) -> CState
     ensures { λ r. ⌜ r ≡ stateTo state ⌝ }
 {
     let table = state.table;
@@ -167,7 +175,7 @@ pub fn to_c(state: State) -> CState
     let queue = state.queue;
     CState {
         table,
-        progress: progress_to_c(progress),
+        progress: progress_to(progress),
         queue,
     }
 }

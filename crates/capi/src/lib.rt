@@ -201,7 +201,7 @@ pub extern "C" fn pilqandur_set_up(table: Table) -> SetUpResult
     SetUpResult {
         number: number_of(answer),
         index: value_of(answer),
-        state: boundary::to_c(state),
+        state: boundary::state_to(state),
     }
 }
 

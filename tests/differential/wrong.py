@@ -1,9 +1,10 @@
 #!/usr/bin/env python3
-"""Tests the differential tests: the second implementation with one rule changed must be told from the right one.
+"""Tests the differential tests: the second implementation, or what puts it behind the library's names, with one rule changed must be
+told from the right one.
 
 usage, from the repository's root:  tests/differential/wrong.py [LABEL ..]
 
-Each wrong/LABEL.edit names a file of the second implementation, a text that stands in it once, what to put in its
+Each wrong/LABEL.edit names a file of the second implementation, or behind/src/FILE for one of tests/differential/src, a text that stands in it once, what to put in its
 place (\\n is a line feed), and which comparison must notice: plans, calls or both.
 """
 import os
@@ -12,6 +13,7 @@ import subprocess
 import sys
 
 SOURCE = "tests/second/src"
+BEHIND = "tests/differential"
 EDITS = "tests/differential/wrong"
 TOOLS = "target/tests/release"
 TARGET = "target/wrong"
@@ -26,12 +28,19 @@ def read_edit(label):
 
 
 def write_sources(edit, folder):
-    """Copies the sources with the edit made; the old text must stand there once."""
+    """Copies the sources, and what puts them behind the library's names, with the edit made; the old text must stand there once."""
+    copy(edit, SOURCE, "", folder)
+    copy(edit, BEHIND, "behind/", f"{folder}/behind")
+    copy(edit, f"{BEHIND}/src", "behind/src/", f"{folder}/behind/src")
+
+
+def copy(edit, source, called, folder):
+    """The edit names a file by what `called` begins with."""
     os.makedirs(folder, exist_ok=True)
-    for name in os.listdir(SOURCE):
-        with open(f"{SOURCE}/{name}") as file:
+    for name in (name for name in os.listdir(source) if name.endswith(".rs")):
+        with open(f"{source}/{name}") as file:
             text = file.read()
-        if name == edit["file"]:
+        if called + name == edit["file"]:
             if text.count(edit["old"]) != 1:
                 sys.exit(f"{folder}: the old text stands {text.count(edit['old'])} times in {name}")
             text = text.replace(edit["old"], edit["new"])
@@ -51,7 +60,7 @@ def build(edit, folder):
     if edit["by"] != "calls":
         rustc("--crate-name", "schedule", "--extern", second, f"{folder}/main.rs", "-o", f"{folder}/schedule")
     if edit["by"] != "plans":
-        rustc("--crate-type", "cdylib", "--crate-name", "standin", "--extern", second, "tests/differential/standin.rs", "-o", f"{folder}/libstandin.so")
+        rustc("--crate-type", "cdylib", "--crate-name", "standin", "--extern", second, f"{folder}/behind/standin.rs", "-o", f"{folder}/libstandin.so")
 
 
 def notices(command):

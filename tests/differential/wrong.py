@@ -4,8 +4,8 @@ told from the right one.
 
 usage, from the repository's root:  tests/differential/wrong.py [LABEL ..]
 
-Each wrong/LABEL.edit names a file of the second implementation, or behind/src/FILE for one of tests/differential/src, a text that stands in it once, what to put in its
-place (\\n is a line feed), and which comparison must notice: plans, calls or both.
+Each wrong/LABEL.edit names a file of the second implementation, or behind/src/FILE for one of tests/differential/src, a text that stands
+in it once, what to put in its place (\\n is a line feed), and which comparison must notice: plans, calls or both.
 """
 import os
 import re

@@ -3,22 +3,26 @@ use Prim.Native.Nat.{ℕ, zero, suc, _≤_}
 use native.Mathlib.Omega.{arith}
 use mathlib.Core.Path.{_≡_, refl, ap}
 use mathlib.Core.Bool.{Bool, true, false, cond, _&&_}
+use mathlib.Core.List.{List}
+use lib.ListN.{length}
 use lib.Dec.{leb}
 use borrow.Author.Tests.{leb-true}
+use Rattle.lists.specs.Lists.{overlay}
 use Rattle.lists.specs.Numbers.{bitOf}
 use Rattle.lists.specs.Tests.{and-split}
 use Rattle.server.specs.declared.Sporadic.{Sporadic}
 use Rattle.table.specs.declared.Checked.{Checked}
 use Rattle.table.specs.declared.State.{State}
 use Rattle.table.specs.Refusal.{passed, Figures, figures}
-use Rattle.rules.specs.Calls.{requestCheck, requestCall, ticksCheck, tickBy, tickCall, runCheck, runCall}
+use Rattle.rules.specs.declared.Entry.{Entry}
+use Rattle.rules.specs.Calls.{requestCheck, requestCall, ticksCheck, tickBy, tickCall, runCheck, runState, runEntries, runCall}
 use Rattle.rules.specs.Figures.{requestFigures, request-figures, TickFigures, answerFigures, tickFigures, tick-figures, refusedFigures, runFigures, run-figures}
 use Rattle.capi.specs.declared.MovedResult.{MovedResult}
 use Rattle.capi.specs.declared.TickResult.{TickResult}
 use Rattle.capi.specs.declared.boundary.CSporadic.{CSporadic}
 use Rattle.capi.specs.declared.boundary.CState.{CState}
 use Rattle.capi.specs.Boundary.{flagOf, areFlags, flagsFit, sporadicFrom, sporadicTo, stateFrom, stateTo}
-use Rattle.capi.specs.Results.{movedAt, movedResult, tickAt, tickResult}
+use Rattle.capi.specs.Results.{movedAt, movedResult, lentAfter, tickAt, tickResult}
 
 -- ---- a flag, and the part with the flags
 flag-bit : (b : Bool) → flagOf (bitOf b) ≡ b
@@ -98,6 +102,18 @@ request-kept s id work = moved-kept s _ (requestCheck (stateFrom s) work) _ (req
 pub run-kept : (s : CState) (k n : ℕ) → let r : MovedResult = movedResult s (runFigures (stateFrom s) k n) (runCall (stateFrom s) k n .state) in
     1 ≤ r .number → r .state ≡ s
 run-kept s k n = moved-kept s _ (runCheck (stateFrom s) k n) _ (run-figures (stateFrom s) k n)
+
+-- and the lent list is as it was
+pub list-kept : (s : CState) (k : ℕ) (lent : List Entry) →
+    1 ≤ movedResult s (runFigures (stateFrom s) k (length lent)) (runCall (stateFrom s) k (length lent) .state) .number → lentAfter s k lent ≡ lent
+list-kept s k lent = by (flagsFit s) (runCheck (stateFrom s) k (length lent)) (runFigures (stateFrom s) k (length lent)) (run-figures (stateFrom s) k (length lent))
+  where
+    by : (fits : Bool) (c : Checked) (f : Figures) → figures c ≡ f →
+        1 ≤ cond fits (movedAt (f .number) (stateTo (cond (passed c) (runState k (stateFrom s)) (stateFrom s)))) (movedAt 11 s) .number →
+        cond fits (cond (passed c) (overlay (runEntries k (stateFrom s)) lent) lent) lent ≡ lent
+    by false c f ef h = refl
+    by true Checked.Passed f ef h = let none : 0 ≡ f .number = ap (λ (x : Figures). x .number) ef in absurd (omega arith)
+    by true (Checked.Refused r) f ef h = refl
 
 pub tick-kept : (s : CState) → let r : TickResult = tickResult s (tickFigures (stateFrom s)) (tickCall (stateFrom s) .state) in
     1 ≤ r .number → r .state ≡ s

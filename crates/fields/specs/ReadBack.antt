@@ -51,7 +51,7 @@ module _ (c : ℕ) (low : c < 48) where
       let f = first-digit b bs (isDigit b) refl h in
       rw (apart b (f .0)) (ap (grow b) (digits-then bs rest (f .1)))
 
-  digits-last : (l : List ℕ) → digits l ≡ true → split c l ≡ end l
+  pub digits-last : (l : List ℕ) → digits l ≡ true → split c l ≡ end l
   unfolding split digits
   digits-last [] h = refl
   digits-last (b ∷ bs) h =

@@ -1,6 +1,6 @@
--- Laws of the head: a line written where there is room for it, and the bounds that are in use.
+-- A law of the head: the bounds that are in use.
 use Prim.Native.Nat.{ℕ}
-use mathlib.Core.Path.{_≡_, refl, sym, ap, _∙_}
+use mathlib.Core.Path.{_≡_, refl, sym, _∙_}
 use mathlib.Core.Bool.{Bool, true, false, cond}
 use mathlib.Core.List.{List}
 use native.Mathlib.Omega.{arith}
@@ -10,12 +10,6 @@ use lib.Dec.{ltb}
 use borrow.Author.Tests.{ltb-true}
 use Rattle.table.specs.Limits.{maxTasks}
 use Rattle.lists.specs.Numbers.{lesserOf}
-use Rattle.text.specs.declared.Line.{Line}
-use Rattle.text.specs.Buffer.{Wrote, ifRoom, wrote-same}
-use Rattle.text.specs.Lines.{lineRoom, lineBytes}
-
-pub line-or : {l m : List ℕ} {at r : ℕ} (x y : Line) → Wrote l at (ifRoom lineRoom l at (lineBytes x)) m r → x ≡ y → Wrote l at (ifRoom lineRoom l at (lineBytes y)) m r
-line-or {l} {m} {at} x y w e = wrote-same (ap (λ (z : Line). ifRoom lineRoom l at (lineBytes z)) e) w
 
 -- as many as a table holds
 pub in-use : (n : ℕ) (bs : List ℕ) → length bs ≡ maxTasks → take (lesserOf n maxTasks) bs ≡ take n bs

@@ -1,4 +1,4 @@
--- Laws of lines that are written: one that has room, and numbered ones one by one.
+-- Laws of lines that are written: one that has room or may have none, and numbered ones one by one.
 use Prim.Native.Nat.{ℕ, zero, suc, _+_, _≤_, _<_}
 use mathlib.Core.Path.{_≡_, sym, ap, _∙_}
 use mathlib.Core.List.{List, [], _∷_, _++_, append-nil, append-assoc}
@@ -13,6 +13,10 @@ use Rattle.heading.specs.Heading.{numbered}
 -- a line that has room
 pub line-in : {l m : List ℕ} {at r : ℕ} (x y : Line) → at + lineRoom ≤ length l → Wrote l at (ifRoom lineRoom l at (lineBytes x)) m r → x ≡ y → Wrote l at (lineBytes y) m r
 line-in {l} {m} {at} x y h w e = wrote-same (has-room lineRoom l at (lineBytes x) h ∙ ap lineBytes e) w
+
+-- a line that may have none
+pub line-or : {l m : List ℕ} {at r : ℕ} (x y : Line) → Wrote l at (ifRoom lineRoom l at (lineBytes x)) m r → x ≡ y → Wrote l at (ifRoom lineRoom l at (lineBytes y)) m r
+line-or {l} {m} {at} x y w e = wrote-same (ap (λ (z : Line). ifRoom lineRoom l at (lineBytes z)) e) w
 
 -- one line more
 numbered-on :

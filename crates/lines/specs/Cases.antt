@@ -5,7 +5,7 @@ use mathlib.Core.Bool.{true, false}
 use mathlib.Core.List.{List, [], _∷_}
 use Rattle.text.specs.Cases.{rules}
 use Rattle.text.specs.Lines.{lineBytes}
-use Rattle.lines.specs.Lines.{taskBoundLine, serverBoundLine, admittedLine, refusedLine, tickLine, finishLine, planRefusedLine}
+use Rattle.lines.specs.Lines.{taskBoundLine, serverBoundLine, admittedLine, refusedLine, tickLine, finishLine, totalsLine, planRefusedLine}
 
 -- B,0,6
 task-bound : lineBytes (taskBoundLine 0 6) ≡ 66 ∷ 44 ∷ 48 ∷ 44 ∷ 54 ∷ 10 ∷ []
@@ -40,6 +40,11 @@ finish-six = refl
 refused-twelve : lineBytes (refusedLine 12 7 5) ≡ 78 ∷ 44 ∷ 49 ∷ 50 ∷ 44 ∷ 55 ∷ 44 ∷ 53 ∷ 10 ∷ []
 unfolding rules
 refused-twelve = refl
+
+-- E,8,3,1,4,0
+totals-eight : lineBytes (totalsLine 8 3 1 4 0) ≡ 69 ∷ 44 ∷ 56 ∷ 44 ∷ 51 ∷ 44 ∷ 49 ∷ 44 ∷ 52 ∷ 44 ∷ 48 ∷ 10 ∷ []
+unfolding rules
+totals-eight = refl
 
 -- Z,9,1
 plan-refused : lineBytes (planRefusedLine 9 1) ≡ 90 ∷ 44 ∷ 57 ∷ 44 ∷ 49 ∷ 10 ∷ []

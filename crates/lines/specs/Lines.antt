@@ -13,6 +13,7 @@ taskBoundLine row bound = record {
   second = Part.Number bound;
   third = Part.Nothing;
   fourth = Part.Nothing;
+  fifth = Part.Nothing;
 }
 
 abbrev pub serverBoundLine : ℕ → Line
@@ -22,6 +23,7 @@ serverBoundLine bound = record {
   second = Part.Number bound;
   third = Part.Nothing;
   fourth = Part.Nothing;
+  fifth = Part.Nothing;
 }
 
 -- "V: admitted 1 or 0"
@@ -32,6 +34,7 @@ admittedLine admitted = record {
   second = Part.Nothing;
   third = Part.Nothing;
   fourth = Part.Nothing;
+  fifth = Part.Nothing;
 }
 
 -- "A request refused for a full queue prints `N,tick,id,5`"
@@ -42,6 +45,7 @@ refusedLine tick id number = record {
   second = Part.Number id;
   third = Part.Number number;
   fourth = Part.Nothing;
+  fifth = Part.Nothing;
 }
 
 -- "X: tick, I idle or T row or A request, row or id, drops."
@@ -52,6 +56,7 @@ tickLine tick occupant id drops = record {
   second = Part.Letter occupant;
   third = Part.Number id;
   fourth = Part.Number drops;
+  fifth = Part.Nothing;
 }
 
 -- "F, after its X: tick, id, response."
@@ -62,6 +67,18 @@ finishLine tick id response = record {
   second = Part.Number id;
   third = Part.Number response;
   fourth = Part.Nothing;
+  fifth = Part.Nothing;
+}
+
+-- 02: "`schedule` shall end with `E,ticks,idle,rows,requests,drops`": tasks are its rows
+abbrev pub totalsLine : ℕ → ℕ → ℕ → ℕ → ℕ → Line
+totalsLine ticks idle tasks requests drops = record {
+  letter = 69;
+  first = Part.Number ticks;
+  second = Part.Number idle;
+  third = Part.Number tasks;
+  fourth = Part.Number requests;
+  fifth = Part.Number drops;
 }
 
 -- "A refused plan prints only `Z,number,line`."
@@ -72,4 +89,5 @@ planRefusedLine number line = record {
   second = Part.Number line;
   third = Part.Nothing;
   fourth = Part.Nothing;
+  fifth = Part.Nothing;
 }

@@ -1,7 +1,7 @@
 // The lines that `schedule` prints, by what they say.
 ghost use mathlib.Core.Path.{_≡_};
 ghost use Prim.Native.Nat.{_+_};
-ghost use Rattle.lines.specs.Lines.{taskBoundLine, serverBoundLine, admittedLine, refusedLine, tickLine, finishLine, planRefusedLine};
+ghost use Rattle.lines.specs.Lines.{taskBoundLine, serverBoundLine, admittedLine, refusedLine, tickLine, finishLine, totalsLine, planRefusedLine};
 use text::Line;
 use text::Part;
 
@@ -15,6 +15,7 @@ pub fn task_bound_line(row: u32, bound: u32) -> Line
         second: Part::Number(bound),
         third: Part::Nothing,
         fourth: Part::Nothing,
+        fifth: Part::Nothing,
     }
 }
 
@@ -28,6 +29,7 @@ pub fn server_bound_line(bound: u32) -> Line
         second: Part::Number(bound),
         third: Part::Nothing,
         fourth: Part::Nothing,
+        fifth: Part::Nothing,
     }
 }
 
@@ -42,6 +44,7 @@ pub fn admitted_line(admitted: bool) -> Line
         second: Part::Nothing,
         third: Part::Nothing,
         fourth: Part::Nothing,
+        fifth: Part::Nothing,
     }
 }
 
@@ -55,6 +58,7 @@ pub fn refused_line(tick: u32, id: u32, number: u32) -> Line
         second: Part::Number(id),
         third: Part::Number(number),
         fourth: Part::Nothing,
+        fifth: Part::Nothing,
     }
 }
 
@@ -68,6 +72,7 @@ pub fn tick_line(tick: u32, occupant: u8, id: u32, drops: u32) -> Line
         second: Part::Letter(occupant),
         third: Part::Number(id),
         fourth: Part::Number(drops),
+        fifth: Part::Nothing,
     }
 }
 
@@ -81,6 +86,21 @@ pub fn finish_line(tick: u32, id: u32, response: u32) -> Line
         second: Part::Number(id),
         third: Part::Number(response),
         fourth: Part::Nothing,
+        fifth: Part::Nothing,
+    }
+}
+
+// "`schedule` shall end with E,ticks,idle,rows,requests,drops": tasks are its rows.
+pub fn totals_line(ticks: u32, idle: u32, tasks: u32, requests: u32, drops: u32) -> Line
+    ensures { λ r. ⌜ r ≡ totalsLine ticks idle tasks requests drops ⌝ }
+{
+    Line {
+        letter: b'E',
+        first: Part::Number(ticks),
+        second: Part::Number(idle),
+        third: Part::Number(tasks),
+        fourth: Part::Number(requests),
+        fifth: Part::Number(drops),
     }
 }
 
@@ -94,5 +114,6 @@ pub fn plan_refused_line(number: u32, line: u32) -> Line
         second: Part::Number(line),
         third: Part::Nothing,
         fourth: Part::Nothing,
+        fifth: Part::Nothing,
     }
 }

@@ -5,30 +5,56 @@ use mathlib.Core.Bool.{Bool, true, false, _&&_, false≢true}
 use mathlib.Core.List.{List, [], _∷_}
 use mathlib.Core.Logic.{_⊎_, inl, inr}
 use native.Mathlib.Omega.{arith}
-use lib.ListN.{getD, take}
+use lib.ListN.{length, getD, take}
 use lib.Dec.{ltb, leb}
-use borrow.Author.Tests.{ne-eqb, ltb-true, ltb-false, leb-true, leb-false}
+use borrow.Author.Tests.{ne-eqb, lt-ltb, ltb-true, ltb-false, leb-true, leb-false}
 use Rattle.lists.specs.Numbers.{lesserOf, lesser-left, lesser-right}
 use Rattle.table.specs.declared.State.{State}
 use Rattle.plan.specs.declared.Next.{Next}
 use Rattle.text.specs.declared.Line.{Line}
 use Rattle.lines.specs.Lines.{tickLine}
 use Rattle.queue.specs.declared.Request.{Request}
+use Rattle.queue.specs.Queue.{waitingOf}
 use Rattle.rules.specs.declared.Entry.{Entry}
 use Rattle.fields.specs.declared.Arrival.{Arrival}
-use Rattle.output.specs.Rooms.{blockRoom}
+use Rattle.fields.specs.Text.{maxNumber}
+use Rattle.output.specs.Totals.{cappedSum, counted, blockTotals}
 use Rattle.output.specs.Steps.{NotDue}
-use Rattle.output.specs.Blocks.{letter, entryLine, Unfinished, Undisturbed, Free}
+use Rattle.output.specs.Blocks.{letter, entryLine, Unfinished, Undisturbed, Free, unfinished-less, undisturbed-less}
 use Rattle.output.specs.declared.Place.{Place}
+use Rattle.output.specs.declared.Totals.{Totals}
 
 -- the lesser of two numbers is neither's greater
 pub lesser-both : (a b : ℕ) {r : ℕ} → r ≡ lesserOf a b → (r ≤ a) × (r ≤ b)
 lesser-both a b e = (omega (arith, e, lesser-left a b), omega (arith, e, lesser-right a b))
 
+-- a sum that does not fit
+pub sum-capped : (a b : ℕ) → maxNumber < a + b → maxNumber ≡ cappedSum a b
+sum-capped a b h = rw (lt-ltb maxNumber (a + b) h) refl
+
+-- totals that agree in their parts
+pub totals-same :
+    {a b c d e f g h : ℕ} → a ≡ b → c ≡ d → e ≡ f → g ≡ h →
+    _≡_ {A = Totals} (record { idle = a; tasks = c; requests = e; drops = g }) (record { idle = b; tasks = d; requests = f; drops = h })
+totals-same {a} {b} {c} {d} {e} {f} {g} {h} p q r s = rw (p, q, r, s) refl
+
+-- the totals with one tick more of a record
+pub block-on :
+    (t : Totals) (es : List Entry) (i : ℕ) (d : Entry) → i < length es →
+    counted (blockTotals t (take i es)) (getD es i d) ≡ blockTotals t (take (suc i) es)
+unfolding blockTotals
+block-on t [] i d h = absurd (omega arith)
+block-on t (e ∷ es) zero d h = refl
+block-on t (e ∷ es) (suc i) d h = block-on (counted t e) es i d (omega arith)
+
 -- places that agree in their parts
-pub place-same : (t : ℕ) {n k : Next} {s z : State} → n ≡ k → s ≡ z → _≡_ {A = Place} (record { tick = t; next = n; state = s }) (record { tick = t; next = k; state = z })
-place-same t {n} {k} {s} {z} e f =
-    ap (λ (x : Next). record { tick = t; next = x; state = s }) e ∙ ap (λ (x : State). record { tick = t; next = k; state = x }) f
+pub place-same :
+    (t : ℕ) {n k : Next} {s z : State} {u v : Totals} → n ≡ k → s ≡ z → u ≡ v →
+    _≡_ {A = Place} (record { tick = t; next = n; state = s; totals = u }) (record { tick = t; next = k; state = z; totals = v })
+place-same t {n} {k} {s} {z} {u} {v} e f g =
+    ap (λ (x : Next). record { tick = t; next = x; state = s; totals = u }) e
+    ∙ ap (λ (x : State). record { tick = t; next = k; state = x; totals = u }) f
+    ∙ ap (λ (x : Totals). record { tick = t; next = k; state = z; totals = x }) g
 
 -- ---- how many ticks may be run at once
 pub undisturbed-found : (n : Next) (a : Arrival) (q t : ℕ) → n ≡ Next.Found a q → t ≤ a .tick → Undisturbed n t
@@ -45,15 +71,14 @@ unfinished-head zero rs d k h = tt
 unfinished-head (suc n) [] d k h = tt
 unfinished-head (suc n) (r ∷ rs) d k h = h
 
--- the ticks of a block, where it has room
-module _ (ticks : ℕ) (p : Place) (k j n at : ℕ) (some : 0 < j) (found : 0 < k → Free ticks p k) (room : 0 < j → (j ≡ k) × (at + blockRoom ≤ n)) where
-  pub room-free : Free ticks p j
-  room-free =
-      let e : j ≡ k = room some .0 in
-      subst (Free ticks p) (sym e) (found (omega arith))
-
-  pub room-fits : at + blockRoom ≤ n
-  room-fits = room some .1
+-- fewer of them may be run at once too
+pub free-less : (ticks : ℕ) (p : Place) (k j : ℕ) → j ≤ k → Free ticks p k → Free ticks p j
+free-less ticks p k j h f = record {
+  few = omega (arith, f .few);
+  ends = omega (arith, f .ends);
+  next = undisturbed-less (p .next) (p .tick + k) (p .tick + j) (omega arith) (f .next);
+  head = unfinished-less (waitingOf (p .state .queue)) k j h (f .head);
+}
 
 -- the next A line is not due: it is another tick's, or there is none
 pub later-found : (n : Next) (a : Arrival) (q t : ℕ) → n ≡ Next.Found a q → (a .tick ≡ t → ⊥) → NotDue n t

@@ -9,7 +9,6 @@ use mathlib.Core.List.{List, [], _∷_, append-nil}
 use lib.ListN.{length, take}
 use lib.Dec.{eqb}
 use borrow.Author.Tests.{lt-leb}
-use Rattle.output.specs.Rooms.{blockRoom}
 use Rattle.lists.specs.Lists.{take-overlay}
 use Rattle.queue.specs.declared.Request.{Request}
 use Rattle.queue.specs.declared.Finish.{Finish}
@@ -35,6 +34,7 @@ use Rattle.text.specs.Buffer.{Wrote, wrote-same}
 use Rattle.plan.specs.declared.Next.{Next}
 use Rattle.output.specs.declared.Place.{Place}
 use Rattle.heading.specs.Heading.{numbered}
+use Rattle.output.specs.Totals.{counted, answered, blockTotals}
 use Rattle.output.specs.Output.{occupantLine, tickText}
 use Rattle.output.specs.Steps.{Step, stepFrom, andThen, stepsFrom, Stepped, NotDue, step-tick, taken-same}
 
@@ -115,10 +115,15 @@ module _ (s : State) (may : mayRun 1 s ≡ true) where
       rw (take-overlay (length w) w (s .queue .requests) refl) (worked-less (turnAt (taskSetOf (s .table)) (modelOf s)) (waitingOf (s .queue)) k h)
 
 -- ---- the ticks of a block, one by one
--- k ticks are run at once: their X lines
+-- k ticks are run at once: their X lines; they are counted
 abbrev ticksRun : ℕ → Place → Step
 ticksRun k p = record {
-  place = record { tick = p .tick + k; next = p .next; state = runState k (p .state) };
+  place = record {
+    tick = p .tick + k;
+    next = p .next;
+    state = runState k (p .state);
+    totals = blockTotals (p .totals) (runEntries k (p .state));
+  };
   text = blockText (p .tick) (runEntries k (p .state));
 }
 
@@ -133,7 +138,12 @@ free-not-due ticks p k some free = go (p .next) (free .next)
 -- one of them: its X line
 abbrev quietTick : Place → Step
 quietTick p = record {
-  place = record { tick = p .tick + 1; next = p .next; state = stateAfter (p .state) };
+  place = record {
+    tick = p .tick + 1;
+    next = p .next;
+    state = stateAfter (p .state);
+    totals = counted (p .totals) (entryOf (ticked (p .state)));
+  };
   text = lineBytes (entryLine (p .tick) (entryOf (ticked (p .state))));
 }
 
@@ -141,7 +151,7 @@ module _ (bytes : List ℕ) (ticks k : ℕ) (p : Place) (may : mayRun 1 (p .stat
   quiet-step : stepFrom bytes ticks p ≡ quietTick p
   quiet-step =
       step-tick bytes ticks p (omega (arith, free .ends)) (free-not-due ticks p (suc k) (omega arith) free)
-      ∙ rw (tick-line (p .state) may (p .tick) k (free .head), ap (λ (x : Ticked). x .state) (tick-ran (p .state) may)) refl
+      ∙ rw (tick-line (p .state) may (p .tick) k (free .head), ap (λ (x : Ticked). x .state) (tick-ran (p .state) may), ap (λ (x : Ticked). answered (p .totals) (x .answer)) (tick-ran (p .state) may)) refl
 
   quiet-free : Free ticks (quietTick p .place) k
   quiet-free =
@@ -157,7 +167,7 @@ module _ (bytes : List ℕ) (ticks k : ℕ) (p : Place) (may : mayRun 1 (p .stat
 pub block-steps :
     (bytes : List ℕ) (ticks k : ℕ) (p : Place) → mayRun k (p .state) ≡ true → Sized (p .state) → Free ticks p k →
     stepsFrom bytes ticks k p ≡ ticksRun k p
-unfolding stepsFrom numbered
+unfolding stepsFrom numbered blockTotals
 block-steps bytes ticks zero p may z free = let e : p .tick + 0 ≡ p .tick = omega arith in rw e refl
 block-steps bytes ticks (suc k) p may z free =
     let now : mayRun 1 (p .state) ≡ true = one k (p .state) may in
@@ -169,9 +179,9 @@ block-steps bytes ticks (suc k) p may z free =
 
 -- a block is taken: as many steps as it has ticks
 pub block-taken :
-    (bytes : List ℕ) (ticks : ℕ) {l m : List ℕ} {at r : ℕ} (p q : Place) (k : ℕ) (b : Recording) → 0 < k → at + blockRoom ≤ length l → r ≤ at + k * lineRoom → Free ticks p k → Sized (p .state) →
+    (bytes : List ℕ) (ticks : ℕ) {l m : List ℕ} {at r : ℕ} (p q : Place) (k : ℕ) (b : Recording) → 0 < k → at + k * lineRoom ≤ length l → r ≤ at + k * lineRoom → Free ticks p k → Sized (p .state) →
     b ≡ blockCall (p .state) k → b .answer ≡ Checked.Passed → Wrote l at (blockText (p .tick) (take k (b .entries))) m r →
-    q ≡ record { tick = p .tick + k; next = p .next; state = b .state } → Stepped bytes ticks l at p m r q
+    q ≡ record { tick = p .tick + k; next = p .next; state = b .state; totals = blockTotals (p .totals) (take k (b .entries)) } → Stepped bytes ticks l at p m r q
 unfolding allowance blockCall
 block-taken bytes ticks {l} {m} {at} {r} p q k b some room few free z eb ea w e = record {
   steps = k;
@@ -185,11 +195,16 @@ block-taken bytes ticks {l} {m} {at} {r} p q k b some room few free z eb ea w e 
     may : mayRun k (p .state) ≡ true
     may = rw ok at (starts (p .state) k blockTicks)
 
-    place : q ≡ ticksRun k p .place
-    place = e ∙ ap (λ (x : Recording). record { tick = p .tick + k; next = p .next; state = x .state }) eb ∙ rw ok refl
-
     recorded : take k (runList (p .state) k idleEntries) ≡ runEntries k (p .state)
     recorded = rw ok (take-overlay k (runEntries k (p .state)) idleEntries (run-length k (p .state)))
 
+    listed : take k (b .entries) ≡ runEntries k (p .state)
+    listed = ap (λ (x : Recording). take k (x .entries)) eb ∙ recorded
+
+    place : q ≡ ticksRun k p .place
+    place =
+        e ∙ ap (λ (x : State). record { tick = p .tick + k; next = p .next; state = x; totals = blockTotals (p .totals) (take k (b .entries)) }) (ap (λ (x : Recording). x .state) eb ∙ rw ok refl)
+        ∙ ap (λ (x : List Entry). record { tick = p .tick + k; next = p .next; state = runState k (p .state); totals = blockTotals (p .totals) x }) listed
+
     entries : blockText (p .tick) (take k (b .entries)) ≡ ticksRun k p .text
-    entries = ap (blockText (p .tick)) (ap (λ (x : Recording). take k (x .entries)) eb ∙ recorded)
+    entries = ap (blockText (p .tick)) listed

@@ -1,8 +1,12 @@
 pub mod Rooms
+pub mod Totals
 pub mod Output
 pub mod Steps
 pub mod Rest
 pub mod Pieces
 pub mod Blocks
 pub mod Whole
+pub mod Printed
+pub mod PrintedLines
+pub mod ReadBack
 pub mod Cases

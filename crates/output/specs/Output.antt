@@ -22,6 +22,8 @@ use Rattle.plan.specs.declared.Plan.{Plan}
 use Rattle.plan.specs.Refusal as plan
 use Rattle.plan.specs.Plan.{planOf, arrivalsFrom}
 use Rattle.heading.specs.Heading as heading
+use Rattle.output.specs.declared.Totals.{Totals}
+use Rattle.output.specs.Totals.{noTotals, answered, blockTotals, closingText}
 
 -- ---- one tick
 -- "A request refused for a full queue prints `N,tick,id,5`": the number is the refusal's; of an accepted plan no other comes
@@ -63,25 +65,26 @@ unfoldable pub later : ℕ → List Arrival → List Arrival
 later t [] = []
 later t (a ∷ rest) = cond (eqb (a .tick) t) (later t rest) (a ∷ rest)
 
--- ---- k ticks from tick t on
-unfoldable pub ticksText : ℕ → ℕ → State → List Arrival → List ℕ
-ticksText zero t s rest = []
-ticksText (suc k) t s rest =
+-- ---- k ticks from tick t on, with the totals of the ticks before, and the closing line after them
+unfoldable pub ticksText : ℕ → ℕ → Totals → State → List Arrival → List ℕ
+ticksText zero t sums s rest = closingText t sums
+ticksText (suc k) t sums s rest =
     dueText t s rest
-    ++ (tickText t (tickCall (afterDue t s rest) .answer) ++ ticksText k (suc t) (tickCall (afterDue t s rest) .state) (later t rest))
+    ++ (tickText t (tickCall (afterDue t s rest) .answer)
+    ++ ticksText k (suc t) (answered sums (tickCall (afterDue t s rest) .answer)) (tickCall (afterDue t s rest) .state) (later t rest))
 
 -- ---- the whole
--- "A refused plan prints only `Z,number,line`"; "a table not admitted runs too"
+-- "A refused plan prints only `Z,number,line`"; "a table not admitted runs too"; 02: "A refused plan still prints only its Z line."
 unfoldable pub textBy : Answer → Plan → List ℕ → List ℕ
 textBy (Answer.Refused k) p bytes = lineBytes (planRefusedLine (plan.number k) (p .line))
 textBy Answer.Accepted p bytes =
     heading.headText (p .table .n) (admissionCall (p .table))
-    ++ ticksText (p .ticks) 0 (setUpCall (p .table) .state) (arrivalsFrom bytes 0)
+    ++ ticksText (p .ticks) 0 noTotals (setUpCall (p .table) .state) (arrivalsFrom bytes 0)
 
 unfoldable pub scheduleText : List ℕ → List ℕ
 scheduleText bytes = textBy (planOf bytes .answer) (planOf bytes) bytes
 
 -- all of the definitions open, to compute with
 unfoldable pub rules : Unit {0}
-unfolding heading.rules dueText afterDue later ticksText textBy scheduleText
+unfolding heading.rules blockTotals dueText afterDue later ticksText textBy scheduleText
 rules = tt

@@ -1,13 +1,14 @@
 -- The pieces of the output, in order, are the whole.
 use Prim.Native.Nat.{ℕ, zero, suc, _+_, _-_, _≤_, _<_}
 use mathlib.Core.Path.{_≡_, refl, sym, ap, _∙_}
-use mathlib.Core.List.{List, [], _∷_, _++_}
+use mathlib.Core.List.{List, [], _∷_, _++_, append-nil}
 use mathlib.Core.Logic.{_⊎_, ⊎-elim}
 use native.Mathlib.Omega.{arith}
 use lib.ListN.{length, take}
 use Rattle.text.specs.Buffer.{front, wrote-length}
 use Rattle.output.specs.Rooms.{stepRoom}
 use Rattle.output.specs.declared.Place.{Place}
+use Rattle.output.specs.Totals.{closingText}
 use Rattle.output.specs.Output.{ticksText}
 use Rattle.output.specs.Steps.{stepsFrom, Taken, one-end}
 use Rattle.output.specs.Rest.{textFrom, stepsLeft, steps-print, taken-fewer}
@@ -59,9 +60,9 @@ filled-end {bytes} {ticks} {p = p} f g h k =
     (omega (arith, ap (λ (x : Place). x .tick) (g .taken .place)))
     ∙ sym (g .taken .place)
 
--- what stands in buffers that are filled one after the other, from a place up to the last tick
+-- what stands in buffers that are filled one after the other, from a place up to the last tick, and then the closing line
 pub data Fills (bytes : List ℕ) (ticks : ℕ) : Place → List (List ℕ) → Type 0 where
-  done : {p : Place} → ticks ≤ p .tick → Fills bytes ticks p []
+  done : {p : Place} → ticks ≤ p .tick → Fills bytes ticks p (closingText (p .tick) (p .totals) ∷ [])
   more :
       {l m : List ℕ} {r : ℕ} {p q : Place} {ps : List (List ℕ)} → Filled bytes ticks l p m r q → Fills bytes ticks q ps →
       Fills bytes ticks p (take r m ∷ ps)
@@ -76,5 +77,5 @@ pub pieces-whole : {bytes : List ℕ} {ticks : ℕ} {p : Place} {ps : List (List
 unfolding textFrom ticksText
 pieces-whole {bytes} {ticks} {p} (done h) =
     let none : ticks - p .tick ≡ 0 = omega arith in
-    rw none refl
+    rw none (append-nil (closingText (p .tick) (p .totals)))
 pieces-whole {bytes} {ticks} (more {l} {m} {r} {p} {q} {ps} f later) = ap (λ (x : List ℕ). take r m ++ x) (pieces-whole later) ∙ sym (filled-text f)

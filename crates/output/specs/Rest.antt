@@ -1,4 +1,4 @@
--- What is still to be printed at a place, and how many steps are left there at most: each step prints the front of it, and leaves fewer.
+-- What is still to be printed at a place, the closing line included, and how many steps are left there at most: each step prints the front of it, and leaves fewer.
 use Prim.Native.Nat.{ℕ, zero, suc, _+_, _-_, _≤_, _<_}
 use mathlib.Core.Path.{_≡_, refl, sym, ap, _∙_}
 use mathlib.Core.List.{List, [], _∷_, _++_, append-assoc}
@@ -13,6 +13,8 @@ use Rattle.plan.specs.declared.Next.{Next}
 use Rattle.plan.specs.Plan.{arrivalsFrom, nextFrom, unrolled}
 use Rattle.plan.specs.Arrivals.{walked}
 use Rattle.output.specs.declared.Place.{Place}
+use Rattle.output.specs.declared.Totals.{Totals}
+use Rattle.output.specs.Totals.{answered}
 use Rattle.output.specs.Output.{answerText, tickText, arrivalCall, dueText, afterDue, later, ticksText}
 use Rattle.output.specs.Steps.{Step, presented, tickRun, stepFrom, stepsFrom, Taken, NotDue, step-kinds}
 
@@ -27,14 +29,10 @@ join f {x} {y} {s} {q} {cs} {bs} d e h =
     ap (λ (l : List ℕ). l ++ f s cs) d ∙ ap (λ (z : State). y ++ f z cs) e ∙ ap (λ (l : List Arrival). y ++ f q l) h
 
 -- the tick of a state and the ticks after it
-tickOn : ℕ → ℕ → State → List Arrival → List ℕ
-tickOn k t s rest = tickText t (tickCall s .answer) ++ ticksText k (suc t) (tickCall s .state) rest
+tickOn : ℕ → ℕ → Totals → State → List Arrival → List ℕ
+tickOn k t u s rest = tickText t (tickCall s .answer) ++ ticksText k (suc t) (answered u (tickCall s .answer)) (tickCall s .state) rest
 
-module _ (k t : ℕ) (s : State) where
-  opened : (rest : List Arrival) → ticksText (suc k) t s rest ≡ dueText t s rest ++ tickOn k t (afterDue t s rest) (later t rest)
-  unfolding ticksText tickOn
-  opened rest = refl
-
+module _ (t : ℕ) (s : State) where
   module _ (a : Arrival) (rest : List Arrival) (e : a .tick ≡ t) where
     due-on : dueText t s (a ∷ rest) ≡ answerText t (a .id) (arrivalCall s a .answer) ++ dueText t (arrivalCall s a .state) rest
     unfolding dueText
@@ -61,27 +59,31 @@ module _ (k t : ℕ) (s : State) where
     unfolding later
     later-off = rw (ne-eqb _ _ e) refl
 
-module _ (k t : ℕ) (s : State) where
+module _ (k t : ℕ) (u : Totals) (s : State) where
+  opened : (z : State) (rest : List Arrival) → ticksText (suc k) t u z rest ≡ dueText t z rest ++ tickOn k t u (afterDue t z rest) (later t rest)
+  unfolding ticksText tickOn
+  opened z rest = refl
+
   -- an A line of tick t: its N line, if it has one, then the rest with it presented
   pub arrival-first :
       (a : Arrival) (rest : List Arrival) → a .tick ≡ t →
-      ticksText (suc k) t s (a ∷ rest) ≡ answerText t (a .id) (arrivalCall s a .answer) ++ ticksText (suc k) t (arrivalCall s a .state) rest
+      ticksText (suc k) t u s (a ∷ rest) ≡ answerText t (a .id) (arrivalCall s a .answer) ++ ticksText (suc k) t u (arrivalCall s a .state) rest
   arrival-first a rest e =
-      opened k t s (a ∷ rest) ∙ join (tickOn k t) (due-on k t s a rest e) (after-on k t s a rest e) (later-on k t s a rest e)
-      ∙ append-assoc (answerText t (a .id) (arrivalCall s a .answer)) (dueText t (arrivalCall s a .state) rest) (tickOn k t (afterDue t (arrivalCall s a .state) rest) (later t rest))
-      ∙ ap (λ (x : List ℕ). answerText t (a .id) (arrivalCall s a .answer) ++ x) (sym (opened k t (arrivalCall s a .state) rest))
+      opened s (a ∷ rest) ∙ join (tickOn k t u) (due-on t s a rest e) (after-on t s a rest e) (later-on t s a rest e)
+      ∙ append-assoc (answerText t (a .id) (arrivalCall s a .answer)) (dueText t (arrivalCall s a .state) rest) (tickOn k t u (afterDue t (arrivalCall s a .state) rest) (later t rest))
+      ∙ ap (λ (x : List ℕ). answerText t (a .id) (arrivalCall s a .answer) ++ x) (sym (opened (arrivalCall s a .state) rest))
 
   -- none: the tick's X and F lines, then the ticks after it
   pub tick-first :
       (rest : List Arrival) → NoneDue t rest →
-      ticksText (suc k) t s rest ≡ tickText t (tickCall s .answer) ++ ticksText k (suc t) (tickCall s .state) rest
+      ticksText (suc k) t u s rest ≡ tickText t (tickCall s .answer) ++ ticksText k (suc t) (answered u (tickCall s .answer)) (tickCall s .state) rest
   unfolding tickOn dueText afterDue later
-  tick-first [] h = opened k t s []
-  tick-first (a ∷ rest) h = opened k t s (a ∷ rest) ∙ join (tickOn k t) (due-off k t s a rest h) (after-off k t s a rest h) (later-off k t s a rest h)
+  tick-first [] h = opened s []
+  tick-first (a ∷ rest) h = opened s (a ∷ rest) ∙ join (tickOn k t u) (due-off t s a rest h) (after-off t s a rest h) (later-off t s a rest h)
 
 -- what is still to be printed at a place, of a plan's bytes and its ticks
 unfoldable pub textFrom : List ℕ → ℕ → Place → List ℕ
-textFrom bytes ticks p = ticksText (ticks - p .tick) (p .tick) (p .state) (unrolled bytes (p .next))
+textFrom bytes ticks p = ticksText (ticks - p .tick) (p .tick) (p .totals) (p .state) (unrolled bytes (p .next))
 
 -- how many steps are left at most, one for each tick and each A line
 abbrev pub nextLeft : List ℕ → Next → ℕ
@@ -118,11 +120,11 @@ module _ (bytes : List ℕ) (ticks : ℕ) (p : Place) where
     presented-prints : textFrom bytes ticks p ≡ line ++ textFrom bytes ticks (presented bytes p a q .place)
     unfolding textFrom
     presented-prints =
-        ap (ticksText (ticks - p .tick) (p .tick) (p .state)) found-rest
-        ∙ ap (λ (k : ℕ). ticksText k (p .tick) (p .state) (a ∷ arrivalsFrom bytes q)) (one-more early)
-        ∙ arrival-first (ticks - suc (p .tick)) (p .tick) (p .state) a (arrivalsFrom bytes q) due
-        ∙ ap (λ (k : ℕ). line ++ ticksText k (p .tick) (arrivalCall (p .state) a .state) (arrivalsFrom bytes q)) (sym (one-more early))
-        ∙ ap (λ (r : List Arrival). line ++ ticksText (ticks - p .tick) (p .tick) (arrivalCall (p .state) a .state) r) (walked bytes q .left)
+        ap (ticksText (ticks - p .tick) (p .tick) (p .totals) (p .state)) found-rest
+        ∙ ap (λ (k : ℕ). ticksText k (p .tick) (p .totals) (p .state) (a ∷ arrivalsFrom bytes q)) (one-more early)
+        ∙ arrival-first (ticks - suc (p .tick)) (p .tick) (p .totals) (p .state) a (arrivalsFrom bytes q) due
+        ∙ ap (λ (k : ℕ). line ++ ticksText k (p .tick) (p .totals) (arrivalCall (p .state) a .state) (arrivalsFrom bytes q)) (sym (one-more early))
+        ∙ ap (λ (r : List Arrival). line ++ ticksText (ticks - p .tick) (p .tick) (p .totals) (arrivalCall (p .state) a .state) r) (walked bytes q .left)
 
     next-fewer : (r : Next) → ((b : Arrival) (z : ℕ) → r ≡ Next.Found b z → (q < z) × (z ≤ length bytes)) → nextLeft bytes r < suc (length bytes - q)
     next-fewer (Next.Found b z) f = let g = f b z refl in omega arith
@@ -139,9 +141,9 @@ module _ (bytes : List ℕ) (ticks : ℕ) (p : Place) where
     tick-prints : textFrom bytes ticks p ≡ tickRun p .text ++ textFrom bytes ticks (tickRun p .place)
     unfolding textFrom
     tick-prints =
-        ap (λ (k : ℕ). ticksText k (p .tick) (p .state) (unrolled bytes (p .next))) (one-more early)
-        ∙ tick-first (ticks - suc (p .tick)) (p .tick) (p .state) (unrolled bytes (p .next)) (none-due (p .next) (p .tick) bytes idle)
-        ∙ ap (λ (t : ℕ). tickRun p .text ++ ticksText (ticks - t) t (tickCall (p .state) .state) (unrolled bytes (p .next))) (sym (add-one (p .tick)))
+        ap (λ (k : ℕ). ticksText k (p .tick) (p .totals) (p .state) (unrolled bytes (p .next))) (one-more early)
+        ∙ tick-first (ticks - suc (p .tick)) (p .tick) (p .totals) (p .state) (unrolled bytes (p .next)) (none-due (p .next) (p .tick) bytes idle)
+        ∙ ap (λ (t : ℕ). tickRun p .text ++ ticksText (ticks - t) t (tickRun p .place .totals) (tickCall (p .state) .state) (unrolled bytes (p .next))) (sym (add-one (p .tick)))
 
     tick-fewer : stepsLeft bytes ticks (tickRun p .place) < stepsLeft bytes ticks p
     unfolding stepsLeft

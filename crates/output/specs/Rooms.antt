@@ -1,12 +1,7 @@
 -- How many bytes must be free in a buffer before something is written into it.
 use Prim.Native.Nat.{ℕ, _*_}
-use Rattle.scheduler.specs.Parts.{blockTicks}
 use Rattle.text.specs.Lines.{lineRoom}
 
 -- before a step: an X line and an F line
 abbrev pub stepRoom : ℕ
 stepRoom = 2 * lineRoom
-
--- before ticks that are run at once: their X lines
-abbrev pub blockRoom : ℕ
-blockRoom = blockTicks * lineRoom

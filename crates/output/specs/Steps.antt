@@ -15,11 +15,12 @@ use Rattle.fields.specs.declared.Arrival.{Arrival}
 use Rattle.plan.specs.declared.Next.{Next}
 use Rattle.plan.specs.Plan.{nextFrom}
 use Rattle.output.specs.declared.Place.{Place}
+use Rattle.output.specs.Totals.{noTotals, answered}
 use Rattle.output.specs.Output.{answerText, tickText, arrivalCall}
 
 -- where the printing of an accepted plan starts
 unfoldable pub firstPlace : List ℕ → Table → Place
-firstPlace bytes table = record { tick = 0; next = nextFrom bytes 0; state = setUpCall table .state }
+firstPlace bytes table = record { tick = 0; next = nextFrom bytes 0; state = setUpCall table .state; totals = noTotals }
 
 -- a step: the place after it, and what it prints
 pub record Step : Type 0 where
@@ -33,14 +34,19 @@ noStep p = record { place = p; text = [] }
 -- "An A line is presented before its tick": its request call, whose refusal is printed; the next A line is looked for from q on
 abbrev pub presented : List ℕ → Place → Arrival → ℕ → Step
 presented bytes p a q = record {
-  place = record { tick = p .tick; next = nextFrom bytes q; state = arrivalCall (p .state) a .state };
+  place = record { tick = p .tick; next = nextFrom bytes q; state = arrivalCall (p .state) a .state; totals = p .totals };
   text = answerText (p .tick) (a .id) (arrivalCall (p .state) a .answer);
 }
 
--- a tick is run: its X line, and its F line if it finished a request
+-- a tick is run: its X line, and its F line if it finished a request; it is counted
 abbrev pub tickRun : Place → Step
 tickRun p = record {
-  place = record { tick = p .tick + 1; next = p .next; state = tickCall (p .state) .state };
+  place = record {
+    tick = p .tick + 1;
+    next = p .next;
+    state = tickCall (p .state) .state;
+    totals = answered (p .totals) (tickCall (p .state) .answer);
+  };
   text = tickText (p .tick) (tickCall (p .state) .answer);
 }
 

@@ -3,16 +3,19 @@ ghost use mathlib.Core.Path.{_≡_};
 ghost use Prim.Native.Nat.{ℕ, _+_, _*_, _<_, _≤_};
 ghost use mathlib.Core.List.{List};
 ghost use lib.ListN.{length, take};
-ghost use Rattle.text.specs.Buffer.{Wrote};
+ghost use Rattle.text.specs.Buffer.{Wrote, ifRoom};
 ghost use Rattle.text.specs.Lines.{lineRoom};
 ghost use Rattle.fields.specs.Text.{maxNumber};
 ghost use Rattle.scheduler.specs.Parts.{blockTicks};
-ghost use Rattle.output.specs.Rooms.{stepRoom, blockRoom};
+ghost use Rattle.output.specs.Rooms.{stepRoom};
+ghost use Rattle.output.specs.Totals.{closingText};
 ghost use Rattle.output.specs.Output.{answerText, occupantLine, finishText, tickText};
 ghost use Rattle.queue.specs.Queue.{waitingOf};
 ghost use Rattle.output.specs.Steps.{firstPlace, presented, tickRun, Taken, Stepped, NotDue};
 ghost use Rattle.output.specs.Blocks.{entryLine, blockText, Unfinished, Undisturbed, Free};
 ghost use Rattle.output.specs.Pieces.{Filled};
+use counting::count_answer;
+use counting::count_block;
 use fields::Arrival;
 use plan::Next;
 use queue::Finish;
@@ -26,11 +29,22 @@ use table::State;
 use table::Table;
 use text::Line;
 
-// Where the printing stands: the next tick, the next A line and the state.
+mod counting;
+
+// The totals of ticks: how many were idle, a task's (document 02's rows) and a request's, and how many jobs they dropped.
+pub struct Totals {
+    pub idle: u32,
+    pub tasks: u32,
+    pub requests: u32,
+    pub drops: u32,
+}
+
+// Where the printing stands: the next tick, the next A line, the state, and the totals of the ticks before.
 pub struct Place {
     pub tick: u32,
     pub next: Next,
     pub state: State,
+    pub totals: Totals,
 }
 
 // Where the printing stands after a piece, and how far the buffer is filled.
@@ -44,9 +58,6 @@ pub const STEP_ROOM: usize = 2 * text::LINE_ROOM;
 
 // The most ticks that are run at once.
 const BLOCK: u32 = Recording::TICKS as u32;
-
-// The room that must be there for ticks to be run at once: their X lines.
-const BLOCK_ROOM: usize = Recording::TICKS * text::LINE_ROOM;
 
 // The X line of a tick.
 fn occupant_line(t: u32, who: Occupant, drops: u32) -> Line
@@ -113,6 +124,12 @@ pub fn first(plan: &[u8], table: Table) -> Place
         tick: 0,
         next: reader::next_arrival(plan, 0),
         state: table.fresh(),
+        totals: Totals {
+            idle: 0,
+            tasks: 0,
+            requests: 0,
+            drops: 0,
+        },
     }
 }
 
@@ -122,6 +139,7 @@ fn present(plan: &[u8], out: &mut [u8], at: usize, p: Place, a: Arrival, q: usiz
     ensures { λ r. ⌜ Taken (presented (now (plan .entry)) p a q) (now (out .entry)) at (now (out .exit)) (r .at) (r .place) ⌝ }
 {
     let state = p.state;
+    let totals = p.totals;
     let m = scheduler::request(state, a.id, a.work);
     let answer = m.answer;
     let moved = m.state;
@@ -131,6 +149,7 @@ fn present(plan: &[u8], out: &mut [u8], at: usize, p: Place, a: Arrival, q: usiz
             tick: p.tick,
             next: reader::next_arrival(plan, q),
             state: moved,
+            totals,
         },
         at: end,
     }
@@ -143,6 +162,7 @@ fn run_tick(out: &mut [u8], at: usize, p: Place) -> Printed
 {
     let state = p.state;
     let next = p.next;
+    let totals = p.totals;
     let x = scheduler::tick(state);
     let answer = x.answer;
     let moved = x.state;
@@ -152,6 +172,7 @@ fn run_tick(out: &mut [u8], at: usize, p: Place) -> Printed
             tick: p.tick + 1,
             next,
             state: moved,
+            totals: count_answer(totals, answer),
         },
         at: end,
     }
@@ -177,7 +198,7 @@ fn block_lines(
     entries: [Entry; Recording::TICKS],
     k: u32,
 ) -> usize
-    requires { ⌜ (k ≤ blockTicks) × (t + k ≤ maxNumber) × (at + blockRoom ≤ length (now out)) ⌝ }
+    requires { ⌜ (k ≤ blockTicks) × (t + k ≤ maxNumber) × (at + k * lineRoom ≤ length (now out)) ⌝ }
     ensures { λ r. ⌜ (r ≤ at + k * lineRoom) × (Wrote (now (out .entry)) at (blockText t (take k entries)) (now (out .exit)) r) ⌝ }
 {
     let mut end = at;
@@ -232,24 +253,26 @@ fn free_ticks(ticks: u32, p: Place) -> u32
     lists::lesser(few, quiet)
 }
 
-// The same, or 0 where a block's X lines might not fit behind `at` in a buffer of n bytes.
+// The same, or fewer: as many as have room for their X lines behind `at` in a buffer of n bytes.
 fn with_room(k: u32, n: usize, at: usize) -> u32
     requires { ⌜ at ≤ n ⌝ }
-    ensures { λ r. ⌜ (0 < r → (r ≡ k) × (at + blockRoom ≤ n)) ⌝ }
+    ensures { λ r. ⌜ (r ≤ k) × (at + r * lineRoom ≤ n) ⌝ }
 {
-    if n - at < BLOCK_ROOM {
-        return 0;
+    let lines = (n - at) / text::LINE_ROOM;
+    if lines < k as usize {
+        return lines as u32;
     }
     k
 }
 
 // Runs k ticks at once.
 fn run_ticks(out: &mut [u8], at: usize, p: Place, k: u32) -> Printed
-    requires { ⌜ (0 < k) × (k ≤ blockTicks) × (p .tick + k ≤ maxNumber) × (at + blockRoom ≤ length (now out)) ⌝ }
+    requires { ⌜ (1 < k) × (k ≤ blockTicks) × (p .tick + k ≤ maxNumber) × (at + k * lineRoom ≤ length (now out)) ⌝ }
     ensures { λ r. ⌜ ((bytes : List ℕ) (ticks : ℕ) → Free ticks p k → Stepped bytes ticks (now (out .entry)) at p (now (out .exit)) (r .at) (r .place)) ⌝ }
 {
     let state = p.state;
     let next = p.next;
+    let totals = p.totals;
     let b = scheduler::run_block(state, k);
     let answer = b.answer;
     match answer {
@@ -262,6 +285,7 @@ fn run_ticks(out: &mut [u8], at: usize, p: Place, k: u32) -> Printed
                     tick: p.tick + k,
                     next,
                     state: moved,
+                    totals: count_block(totals, entries, k),
                 },
                 at: end,
             }
@@ -310,4 +334,15 @@ pub fn fill(plan: &[u8], ticks: u32, out: &mut [u8], p: Place) -> Printed
         r = step(plan, ticks, out, r.at, r.place);
     }
     r
+}
+
+// The E line of ticks and their totals, from the buffer's start: nothing where LINE_ROOM bytes are not there.
+pub fn closing(out: &mut [u8], ticks: u32, t: Totals) -> usize
+    ensures { λ r. ⌜ (r ≤ lineRoom) × (Wrote (now (out .entry)) 0 (ifRoom lineRoom (now (out .entry)) 0 (closingText ticks t)) (now (out .exit)) r) ⌝ }
+{
+    text::write_line(
+        out,
+        0,
+        lines::totals_line(ticks, t.idle, t.tasks, t.requests, t.drops),
+    )
 }

@@ -3,4 +3,5 @@ pub mod Plan
 pub mod Figures
 pub mod Arrivals
 pub mod PlanBack
+pub mod Accepted
 pub mod Cases

@@ -43,13 +43,13 @@ module _ (c : ℕ) where
   split-step b bs rest false e h k = ap (grow b) (k h)
 
   -- what stands before a c that closes it is one piece
-  split-at : (l rest : List ℕ) → without c l ≡ true → split c (l ++ c ∷ rest) ≡ piece l (split c rest)
+  pub split-at : (l rest : List ℕ) → without c l ≡ true → split c (l ++ c ∷ rest) ≡ piece l (split c rest)
   unfolding split without
   split-at [] rest h = rw (eq-eqb c c refl) refl
   split-at (b ∷ bs) rest h = split-step b bs rest (eqb b c) refl h (split-at bs rest)
 
   module _ (low : c < 48) where
-    digits-without : (l : List ℕ) → digits l ≡ true → without c l ≡ true
+    pub digits-without : (l : List ℕ) → digits l ≡ true → without c l ≡ true
     unfolding without digits
     digits-without [] h = refl
     digits-without (b ∷ bs) h =

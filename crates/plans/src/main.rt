@@ -4,6 +4,7 @@ ghost use Prim.Native.Nat.{ℕ, _≤_};
 ghost use lib.ListN.{length};
 ghost use Rattle.heading.specs.Rooms.{headRoom};
 use plan::Answer;
+use table::Table;
 
 // The buffers for the cases and for what one of them prints.
 const CASES_BYTES: usize = 65536;
@@ -18,6 +19,18 @@ fn write_part(s: &[u8], from: usize, to: usize)
     requires { ⌜ (from ≤ to) × (to ≤ length (now s)) ⌝ }
 {
     io::write_all(1, &s[from..to]);
+}
+
+// Prints the ticks and the closing line.
+fn print_ticks(text: &[u8], table: Table, ticks: u32, out: &mut [u8])
+    requires { ⌜ headRoom ≤ length (now out) ⌝ }
+{
+    let p = output::first(text, table);
+    let f = output::fill(text, ticks, out, p);
+    write_part(out, 0, f.at);
+    let totals = f.place.totals;
+    let e = output::closing(out, f.place.tick, totals);
+    write_part(out, 0, e);
 }
 
 // Prints what fits into the buffer of what is printed of a plan: of these plans, all.
@@ -35,9 +48,7 @@ fn print(text: &[u8], out: &mut [u8])
             let table = r.table;
             let h = heading::head(out, table);
             write_part(out, 0, h);
-            let p = output::first(text, table);
-            let f = output::fill(text, r.ticks, out, p);
-            write_part(out, 0, f.at);
+            print_ticks(text, table, r.ticks, out);
         }
     }
 }

@@ -5,10 +5,10 @@ use native.Mathlib.Omega.{arith}
 use mathlib.Core.Path.{_≡_, refl, sym, ap, subst, _∙_}
 use mathlib.Core.Bool.{Bool, true, false, cond}
 use mathlib.Core.List.{List, [], _∷_, _++_, map, append-nil}
-use lib.ListN.{length, take, length-take, length-map, length-append}
+use lib.ListN.{length, take, length-map, length-append}
 use lib.Dec.{leb}
 use borrow.Author.Tests.{leb-true}
-use Rattle.lists.specs.Lists.{count, zipWith, take-overlay}
+use Rattle.lists.specs.Lists.{zipWith, take-overlay}
 use Rattle.lists.specs.Tests.{never}
 use Rattle.server.specs.Limits.{lastClock}
 use Rattle.table.specs.declared.State.{State}
@@ -20,8 +20,8 @@ use Rattle.table.specs.Model.{modelOf, written}
 use Rattle.table.specs.State.{fit}
 use Rattle.table.specs.Facts.{fit-facts, table-facts}
 use Rattle.rules.specs.declared.Entry.{Entry}
-use Rattle.rules.specs.Tick.{expires}
 use Rattle.rules.specs.Calls.{unless, requestCheck, asked, clockAllows, ticked, stateAfter, tickBy, entryOf, runCheck, runState, runEntries, runList}
+use Rattle.rules.specs.Laws.{tick-few}
 use Rattle.scheduler.specs.Laws.{run-length}
 use Rattle.guarantee.specs.Calls.{Call, request, tick, run, after, final, Event, accepted, ran, tickEvents, runFinishes, happens, events, finishes, ticksFrom}
 use Rattle.play.specs.declared.Made.{Made}
@@ -93,23 +93,6 @@ pub record Moves (s z : State) (es : List Entry) : Type 0 where
   pub clock : s .progress .clock + length es ≡ z .progress .clock
   pub early : s .progress .clock ≤ lastClock → z .progress .clock ≤ lastClock
   pub few : dropsIn es ≤ maxTasks * length es
-
-count-few : {A B : Type 0} (f : A → B → Bool) (xs : List A) (ys : List B) → count (zipWith f xs ys) ≤ length xs
-count-few f [] ys = omega arith
-count-few f (x ∷ xs) [] = omega arith
-count-few f (x ∷ xs) (y ∷ ys) = go (f x y) (count-few f xs ys)
-  where
-    go : (b : Bool) → count (zipWith f xs ys) ≤ length xs → count (b ∷ zipWith f xs ys) ≤ suc (length xs)
-    go true h = omega arith
-    go false h = omega arith
-
-tick-few : (s : State) → entryOf (ticked s) .drops ≤ s .table .n
-tick-few s =
-    omega (
-      arith,
-      count-few (expires (s .progress .clock)) (take (s .table .n) (s .table .tasks)) (take (s .table .n) (s .progress .left)),
-      length-take (s .table .n) (s .table .tasks),
-    )
 
 run-few : (k : ℕ) (s : State) → s .table .n ≤ maxTasks → dropsIn (runEntries k s) ≤ maxTasks * k
 run-few zero s h = omega arith

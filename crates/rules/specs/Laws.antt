@@ -9,7 +9,7 @@ use lib.ListN.{length, take, replicate, length-take, length-drop, length-append,
 use lib.Dec.{leb, ltb}
 use lib.Seq.{length-take-le}
 use borrow.Author.Tests.{leb-true, le-leb, ltb-true}
-use Rattle.lists.specs.Lists.{all, allWith, overlay, take-overlay, zip-length}
+use Rattle.lists.specs.Lists.{count, zipWith, all, allWith, overlay, take-overlay, zip-length}
 use Rattle.lists.specs.Tests.{never, and-join}
 use Rattle.server.specs.Limits.{lastClock}
 use Rattle.server.specs.declared.Server.{Server}
@@ -30,8 +30,8 @@ use Rattle.table.specs.Model.{Model, taskSetOf, modelOf, written}
 use Rattle.table.specs.State.{freshState, tableCheck, leftFits, fit}
 use Rattle.table.specs.Facts.{TableFacts, table-facts, StateFacts, fit-facts, facts-fit}
 use Rattle.rules.specs.declared.Turn.{Turn}
-use Rattle.rules.specs.Tick.{opened, workedTasks, turnAt, leftsAt, serverAt, seenAt, kindAt, busyAt}
-use Rattle.rules.specs.Calls.{unless, asked, requestCheck, requestCall, clockAllows, ticked, stateAfter, tickCall, tickBy, runState, runCall}
+use Rattle.rules.specs.Tick.{expires, opened, workedTasks, turnAt, leftsAt, serverAt, seenAt, kindAt, busyAt}
+use Rattle.rules.specs.Calls.{unless, asked, requestCheck, requestCall, clockAllows, ticked, stateAfter, tickCall, tickBy, entryOf, runState, runCall}
 use Rattle.rules.specs.Fitness.{opened-fit, worked-fit, queue-fit, queue-shorter}
 
 -- ---- a model written over a state reads back as itself
@@ -116,6 +116,24 @@ tick-fit s z e c = (facts-fit (stateAfter s) after, written-sized s (ticked s .n
           (queue-fit (turnAt (taskSetOf (s .table)) (modelOf s)) (s .progress .clock + 1) (modelOf s .queue)
           (fit-later (s .progress .clock) (modelOf s .queue) (h .requests)));
     }
+
+-- ---- a tick drops no more jobs than there are tasks in use
+count-few : {A B : Type 0} (f : A → B → Bool) (xs : List A) (ys : List B) → count (zipWith f xs ys) ≤ length xs
+count-few f [] ys = omega arith
+count-few f (x ∷ xs) [] = omega arith
+count-few f (x ∷ xs) (y ∷ ys) = go (f x y) (count-few f xs ys)
+  where
+    go : (b : Bool) → count (zipWith f xs ys) ≤ length xs → count (b ∷ zipWith f xs ys) ≤ suc (length xs)
+    go true h = omega arith
+    go false h = omega arith
+
+pub tick-few : (s : State) → entryOf (ticked s) .drops ≤ s .table .n
+tick-few s =
+    omega (
+      arith,
+      count-few (expires (s .progress .clock)) (take (s .table .n) (s .table .tasks)) (take (s .table .n) (s .progress .left)),
+      length-take (s .table .n) (s .table .tasks),
+    )
 
 -- ---- an accepted request leaves it fit
 -- what an accepted request has passed

@@ -2,6 +2,7 @@
 ghost use Prim.Native.Nat.{ℕ, _≤_};
 ghost use lib.ListN.{length};
 ghost use Rattle.heading.specs.Rooms.{headRoom};
+use output::Totals;
 use plan::Answer;
 use table::Table;
 
@@ -18,7 +19,15 @@ fn write_out(out: &[u8], n: usize) -> bool
     io::write_all(1, &out[..n])
 }
 
-// Prints an accepted plan: the head, then the ticks, a buffer at a time.
+// Prints the closing line.
+fn close(ticks: u32, totals: Totals, out: &mut [u8])
+    requires { ⌜ headRoom ≤ length (now out) ⌝ }
+{
+    let e = output::closing(out, ticks, totals);
+    write_out(out, e);
+}
+
+// Prints an accepted plan: the head, then the ticks, a buffer at a time, then the closing line.
 fn run(text: &[u8], table: Table, ticks: u32, out: &mut [u8])
     requires { ⌜ headRoom ≤ length (now out) ⌝ }
 {
@@ -35,6 +44,8 @@ fn run(text: &[u8], table: Table, ticks: u32, out: &mut [u8])
         let next = r.place;
         p = next;
     }
+    let totals = p.totals;
+    close(p.tick, totals, out);
 }
 
 fn main() {

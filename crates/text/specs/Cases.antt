@@ -31,7 +31,7 @@ unfolding rules
 ten-digits = refl
 
 -- X,3,A,7,0
-a-line : lineBytes (record { letter = 88; first = Part.Number 3; second = Part.Letter 65; third = Part.Number 7; fourth = Part.Number 0 }) ≡
+a-line : lineBytes (record { letter = 88; first = Part.Number 3; second = Part.Letter 65; third = Part.Number 7; fourth = Part.Number 0; fifth = Part.Nothing }) ≡
     88 ∷ 44 ∷ 51 ∷ 44 ∷ 65 ∷ 44 ∷ 55 ∷ 44 ∷ 48 ∷ 10 ∷ []
 unfolding rules
 a-line = refl

@@ -9,9 +9,9 @@ use Rattle.text.specs.Decimal.{maxDigits, decimal}
 abbrev pub partRoom : ℕ
 partRoom = 1 + maxDigits
 
--- the most bytes of a line: its letter, four parts and the line feed
+-- the most bytes of a line: its letter, five parts and the line feed
 abbrev pub lineRoom : ℕ
-lineRoom = 2 + 4 * partRoom
+lineRoom = 2 + 5 * partRoom
 
 -- a comma and the part
 abbrev pub partBytes : Part → List ℕ
@@ -23,4 +23,4 @@ partBytes Part.Nothing = []
 unfoldable pub lineBytes : Line → List ℕ
 lineBytes l =
     (l .letter ∷ [])
-    ++ (partBytes (l .first) ++ (partBytes (l .second) ++ (partBytes (l .third) ++ (partBytes (l .fourth) ++ (10 ∷ [])))))
+    ++ (partBytes (l .first) ++ (partBytes (l .second) ++ (partBytes (l .third) ++ (partBytes (l .fourth) ++ (partBytes (l .fifth) ++ (10 ∷ []))))))

@@ -31,17 +31,18 @@ pub enum Part {
     Nothing,
 }
 
-// A line: a letter and up to four parts.
+// A line: a letter and up to five parts.
 pub struct Line {
     pub letter: u8,
     pub first: Part,
     pub second: Part,
     pub third: Part,
     pub fourth: Part,
+    pub fifth: Part,
 }
 
-// The most bytes a line has: its letter, four parts of a comma and a number, and the line feed.
-pub const LINE_ROOM: usize = 2 + 4 * (1 + MAX_DIGITS);
+// The most bytes a line has: its letter, five parts of a comma and a number, and the line feed.
+pub const LINE_ROOM: usize = 2 + 5 * (1 + MAX_DIGITS);
 
 // A power of ten, from the table.
 fn power(i: usize) -> u32
@@ -130,12 +131,14 @@ fn whole_line(out: &mut [u8], at: usize, line: Line) -> usize
     let second = line.second;
     let third = line.third;
     let fourth = line.fourth;
+    let fifth = line.fifth;
     let a = put(out, at, line.letter);
     let b = part_field(out, a, first);
     let c = part_field(out, b, second);
     let d = part_field(out, c, third);
     let e = part_field(out, d, fourth);
-    put(out, e, 10)
+    let f = part_field(out, e, fifth);
+    put(out, f, 10)
 }
 
 // Writes a line from a place on, and says where the next one goes: nothing, and the same place, where LINE_ROOM bytes are not left.

@@ -1,5 +1,5 @@
-//! A second implementation of document 01's tick scheduler, written from the papers and the recorded readings, with one free point set to
-//! the product's: what stays in slot 0 when the last request leaves.
+//! A second implementation of document 01's tick scheduler, with request 1/13 of document 02, written from the papers and the recorded
+//! readings, with one free point set to the product's: what stays in slot 0 when the last request leaves.
 //!
 //! State is plain and mutable, every call checks what document 01 lists and then does the steps in the paper's order.
 //! It shares no code with the product and exists to be compared with it.

@@ -3,9 +3,31 @@
 use crate::admission::{admit, Admission};
 use crate::plan::{read, Plan};
 use crate::state::State;
-use crate::tick::Ticked;
+use crate::tick::{Entry, Ticked};
 
-/// The whole output for a plan text, refused ones too.
+/// What the E line tells. "Each of the last four equals the count (for drops, the sum) over the X lines printed, and idle + rows +
+/// requests = ticks" (document 02, 1/13).
+#[derive(Default)]
+struct Totals {
+    idle: u32,
+    rows: u32,
+    requests: u32,
+    drops: u32,
+}
+
+impl Totals {
+    /// One more X line.
+    fn add(&mut self, entry: &Entry) {
+        match entry.kind {
+            0 => self.idle += 1,
+            1 => self.rows += 1,
+            _ => self.requests += 1,
+        }
+        self.drops += entry.drops;
+    }
+}
+
+/// The whole output for a plan text, refused ones too. "A refused plan still prints only its Z line."
 pub fn schedule(text: &[u8]) -> Vec<u8> {
     let mut out = Vec::new();
     match read(text) {
@@ -18,7 +40,8 @@ pub fn schedule(text: &[u8]) -> Vec<u8> {
 fn print_plan(out: &mut Vec<u8>, plan: &Plan) {
     let admission = admit(&plan.table).expect("a read plan's table keeps its limits");
     print_admission(out, plan.table.n as usize, &admission);
-    print_ticks(out, plan);
+    let totals = print_ticks(out, plan);
+    line(out, b"E,", &[plan.ticks, totals.idle, totals.rows, totals.requests, totals.drops]);
 }
 
 fn print_admission(out: &mut Vec<u8>, n: usize, admission: &Admission) {
@@ -29,8 +52,9 @@ fn print_admission(out: &mut Vec<u8>, n: usize, admission: &Admission) {
     line(out, b"V,", &[admission.admitted as u32]);
 }
 
-/// An A line is presented before its tick; one at or past the end isn't.
-fn print_ticks(out: &mut Vec<u8>, plan: &Plan) {
+/// An A line is presented before its tick; one at or past the end isn't. Hands back the totals over the X lines.
+fn print_ticks(out: &mut Vec<u8>, plan: &Plan) -> Totals {
+    let mut totals = Totals::default();
     let mut state = State::set_up(plan.table).expect("a read plan's table keeps its limits");
     let mut arrivals = plan.arrivals.iter().peekable();
     for t in 0..plan.ticks {
@@ -41,7 +65,9 @@ fn print_ticks(out: &mut Vec<u8>, plan: &Plan) {
         }
         let ticked = state.tick().expect("a plan's ticks stay below the last clock");
         print_tick(out, t, &ticked);
+        totals.add(&ticked.entry);
     }
+    totals
 }
 
 fn print_tick(out: &mut Vec<u8>, t: u32, ticked: &Ticked) {

@@ -1,4 +1,4 @@
-//! Document 01's listing and marked cases, and cases for the rules that the marked ones let pass.
+//! Document 01's listing, closed by document 02's E line (1/13), its marked cases, and cases for the rules that the marked ones let pass.
 
 use second::print::schedule;
 
@@ -21,7 +21,7 @@ fn responses(plan: &str) -> Vec<u32> {
 #[test]
 fn listing() {
     let listing = "B,0,6\nB,S,2\nV,1\nX,0,I,0,0\nX,1,I,0,0\nX,2,I,0,0\nX,3,A,7,0\nX,4,A,7,0\nX,5,A,7,0\nX,6,A,7,0\n\
-                   F,6,7,4\nX,7,T,0,0\n";
+                   F,6,7,4\nX,7,T,0,0\nE,8,3,1,4,0\n";
     assert_eq!(output("T,3,6,2,6\nS,2,0,5,2\nA,3,7,4\nR,8\n"), listing);
 }
 
@@ -111,12 +111,13 @@ fn drop_and_release_in_one_tick() {
 fn queue_full() {
     let arrivals: String = (0..66).map(|id| format!("A,1,{id},1\n")).collect();
     let out = output(&format!("T,0,2,1,2\nS,0,1,0,0\n{arrivals}A,2,70,1\nA,2,71,1\nR,4\n"));
-    let expected = "B,0,1\nB,S,0\nV,1\nX,0,T,0,0\nN,1,64,5\nN,1,65,5\nX,1,A,0,0\nF,1,0,1\nN,2,71,5\nX,2,T,0,0\nX,3,A,1,0\nF,3,1,3\n";
+    let expected =
+        "B,0,1\nB,S,0\nV,1\nX,0,T,0,0\nN,1,64,5\nN,1,65,5\nX,1,A,0,0\nF,1,0,1\nN,2,71,5\nX,2,T,0,0\nX,3,A,1,0\nF,3,1,3\nE,4,0,2,2,0\n";
     assert_eq!(out, expected);
 }
 
 #[test]
 fn background_never_has_a_budget() {
     has("T,0,3,1,3\nS,0,1,0,0\nR,0\n", "B,S,0");
-    assert_eq!(output("T,0,3,1,3\nS,0,1,0,0\nR,0\n"), "B,0,1\nB,S,0\nV,1\n");
+    assert_eq!(output("T,0,3,1,3\nS,0,1,0,0\nR,0\n"), "B,0,1\nB,S,0\nV,1\nE,0,0,0,0,0\n");
 }

@@ -143,7 +143,7 @@ fn requests_at_and_past_the_end() {
     after_table("A,8,1,1\nA,4294967295,1,1\nR,8\n", "B,0,3");
     after_table("A,8,1,0\nR,8\n", "Z,4,3");
     let out = schedule(format!("{GOOD}A,0,5,1\nA,1,6,1\nR,1\n").as_bytes());
-    assert_eq!(out, b"B,0,3\nB,S,2\nV,1\nX,0,A,5,0\nF,0,5,1\n");
+    assert_eq!(out, b"B,0,3\nB,S,2\nV,1\nX,0,A,5,0\nF,0,5,1\nE,1,0,0,1,0\n");
 }
 
 #[test]

@@ -2,7 +2,7 @@
 use mathlib.Core.Path.{ap, _∙_}
 use native.Mathlib.Omega.{arith}
 use Prim.Native.Nat.{ℕ}
-use Rattle.heading.proofs.Laws.{line-or}
+use Rattle.heading.specs.Laws.{line-or}
 use Rattle.lines.specs.Lines.{planRefusedLine}
 use borrow.Author.Needs.{needs}
 use Rattle.heading.proofs.refused.Statement.{statement}

@@ -1,5 +1,5 @@
 -- `output::present` meets its contract: the request call's answer and state, and the walk's next A line.
-use mathlib.Core.Path.{ap}
+use mathlib.Core.Path.{refl, ap}
 use native.Mathlib.Omega.{arith}
 use Rattle.output.proofs.Laws.{place-same}
 use Rattle.text.specs.Buffer.{wrote-same}
@@ -23,11 +23,11 @@ same-length c = search needs
 
 returns : tie.Need-returns
 returns c =
-    let a = c .before .before .before .before .before .before .before .before .before .before .args in
+    let a = c .before .before .before .before .before .before .before .before .before .before .before .args in
     let called = c .before .before .before .before .before .before .request .ensures .0 in
     let line = c .before .before .before .answer-line .ensures in
     record {
-      place = place-same (a .p .tick) (c .next-arrival .ensures) (ap (λ (m : Moved). m .state) called);
+      place = place-same (a .p .tick) (c .next-arrival .ensures) (ap (λ (m : Moved). m .state) called) refl;
       wrote = wrote-same (ap (λ (m : Moved). answerText (a .p .tick) (a .a .id) (m .answer)) called) (line .1);
       fits = omega arith;
     }

@@ -2,7 +2,7 @@
 use native.Mathlib.Omega.{arith}
 use borrow.Author.Needs.{needs}
 use Rattle.output.specs.Steps.{tick-taken}
-use Rattle.output.proofs.Laws.{room-free, room-fits}
+use Rattle.output.proofs.Laws.{free-less}
 use Rattle.output.proofs.run_on.Statement.{statement}
 use Rattle.output.proofs.run_on.Tie as tie
 
@@ -28,8 +28,8 @@ run-ticks-requires c κs =
     let a = c .before .before .before .before .before in
     let k = c .before .before .before .free-ticks in
     let j = c .before .before .with-room in
-    let free = room-free (a .args .ticks) (a .args .p) (k .result) (j .result) _ (a .args .at) (omega arith) (k .ensures) (j .ensures) in
-    (omega arith, free .few, omega (arith, free .ends), room-fits (a .args .ticks) (a .args .p) (k .result) (j .result) _ (a .args .at) (omega arith) (k .ensures) (j .ensures))
+    let free = free-less (a .args .ticks) (a .args .p) (k .result) (j .result) (j .ensures .0) (k .ensures (omega arith)) in
+    (omega arith, free .few, omega (arith, free .ends), j .ensures .1)
 
 same-length-2 : tie.Need-same-length-2
 same-length-2 c = search needs
@@ -39,7 +39,7 @@ returns-2 c = λ bytes.
     let a = c .before .before .before .before .before .before .before .before in
     let k = c .before .before .before .before .before .before .free-ticks in
     let j = c .before .before .before .before .before .with-room in
-    c .before .before .run-ticks .ensures bytes (a .args .ticks) (room-free (a .args .ticks) (a .args .p) (k .result) (j .result) _ (a .args .at) (omega arith) (k .ensures) (j .ensures))
+    c .before .before .run-ticks .ensures bytes (a .args .ticks) (free-less (a .args .ticks) (a .args .p) (k .result) (j .result) (j .ensures .0) (k .ensures (omega arith)))
 
 pub run-on-spec : {M : Type 1} → statement M
 run-on-spec =

@@ -1,9 +1,10 @@
 -- `schedule::run` ends: every filled buffer leaves fewer steps.
-use mathlib.Core.Path.{_≡_}
+use mathlib.Core.Path.{_≡_, _∙_}
 use Prim.Native.Nat.{_≤_}
 use native.Mathlib.Omega.{arith}
 use lib.ListN.{length}
 use borrow.Author.Needs.{needs}
+use Rattle.text.specs.Buffer.{wrote-length}
 use Rattle.heading.specs.Rooms.{headRoom}
 use Rattle.output.specs.Rest.{stepsLeft}
 use Rattle.output.specs.Pieces.{filled-length, filled-fewer}
@@ -43,7 +44,9 @@ write-out-requires-2 c κs =
     omega (arith, f .taken .fits, filled-length f)
 
 same-length-2 : tie.Need-same-length-2 Inv-loop μ-loop
-same-length-2 c = search needs
+same-length-2 c =
+    filled-length (c .before .before .before .before .before .fill .ensures) ∙ c .before .before .before .before .before .before .before .before .before .loop .inv .0
+    ∙ wrote-length (c .before .before .before .before .before .before .before .before .before .before .before .before .before .before .before .before .head .ensures .1)
 
 returns-2 : tie.Need-returns-2 Inv-loop μ-loop
 returns-2 c = search needs
@@ -53,6 +56,9 @@ loop-less c = filled-fewer (c .before .before .before .before .before .before .f
 
 loop-again : tie.Need-loop-again Inv-loop μ-loop
 loop-again c = search needs
+
+close-requires : tie.Need-close-requires Inv-loop μ-loop
+close-requires c κs = search needs
 
 same-length-3 : tie.Need-same-length-3 Inv-loop μ-loop
 same-length-3 c = search needs
@@ -78,5 +84,6 @@ run-spec =
     returns-2
     loop-less
     loop-again
+    close-requires
     same-length-3
     returns-3)

@@ -21,6 +21,9 @@ part-field-requires-3 c κs = search needs
 part-field-requires-4 : tie.Need-part-field-requires-4
 part-field-requires-4 c κs = search needs
 
+part-field-requires-5 : tie.Need-part-field-requires-5
+part-field-requires-5 c κs = search needs
+
 put-requires-2 : tie.Need-put-requires-2
 put-requires-2 c κs = search needs
 
@@ -31,12 +34,13 @@ returns : tie.Need-returns
 unfolding lineBytes
 returns c = (
   omega arith,
-  then (c .before .before .before .before .before .before .before .before .before .before .before .before .before .before .before .before .before .before .before .before .before .before .put .ensures)
-      (then (c .before .before .before .before .before .before .before .before .before .before .before .before .before .before .before .before .before .before .part-field .ensures .1)
-      (then (c .before .before .before .before .before .before .before .before .before .before .before .before .before .before .part-field2 .ensures .1)
-      (then (c .before .before .before .before .before .before .before .before .before .before .part-field3 .ensures .1)
-      (then (c .before .before .before .before .before .before .part-field4 .ensures .1)
-      (c .before .before .put2 .ensures))))),
+  then (c .before .before .before .before .before .before .before .before .before .before .before .before .before .before .before .before .before .before .before .before .before .before .before .before .before .before .put .ensures)
+      (then (c .before .before .before .before .before .before .before .before .before .before .before .before .before .before .before .before .before .before .before .before .before .before .part-field .ensures .1)
+      (then (c .before .before .before .before .before .before .before .before .before .before .before .before .before .before .before .before .before .before .part-field2 .ensures .1)
+      (then (c .before .before .before .before .before .before .before .before .before .before .before .before .before .before .part-field3 .ensures .1)
+      (then (c .before .before .before .before .before .before .before .before .before .before .part-field4 .ensures .1)
+      (then (c .before .before .before .before .before .before .part-field5 .ensures .1)
+      (c .before .before .put2 .ensures)))))),
 )
 
 pub whole-line-spec : {M : Type 1} → statement M
@@ -48,6 +52,7 @@ whole-line-spec =
     part-field-requires-2
     part-field-requires-3
     part-field-requires-4
+    part-field-requires-5
     put-requires-2
     same-length
     returns)

@@ -5,7 +5,8 @@ use mathlib.Core.List.{List, [], _∷_, _++_, append-nil}
 use mathlib.Core.Logic.{_⊎_, ⊎-elim}
 use native.Mathlib.Omega.{arith}
 use lib.ListN.{length, take}
-use Rattle.text.specs.Buffer.{front, wrote-length}
+use Rattle.text.specs.Buffer.{Wrote, ifRoom, has-room, front, wrote-length}
+use Rattle.text.specs.Lines.{lineRoom}
 use Rattle.output.specs.Rooms.{stepRoom}
 use Rattle.output.specs.declared.Place.{Place}
 use Rattle.output.specs.Totals.{closingText}
@@ -60,9 +61,11 @@ filled-end {bytes} {ticks} {p = p} f g h k =
     (omega (arith, ap (λ (x : Place). x .tick) (g .taken .place)))
     ∙ sym (g .taken .place)
 
--- what stands in buffers that are filled one after the other, from a place up to the last tick, and then the closing line
+-- what stands in buffers that are filled one after the other, from a place up to the last tick, and in one that then has the closing line
 pub data Fills (bytes : List ℕ) (ticks : ℕ) : Place → List (List ℕ) → Type 0 where
-  done : {p : Place} → ticks ≤ p .tick → Fills bytes ticks p (closingText (p .tick) (p .totals) ∷ [])
+  done :
+      {l m : List ℕ} {r : ℕ} {p : Place} → ticks ≤ p .tick → lineRoom ≤ length l → r ≤ lineRoom →
+      Wrote l 0 (ifRoom lineRoom l 0 (closingText (p .tick) (p .totals))) m r → Fills bytes ticks p (take r m ∷ [])
   more :
       {l m : List ℕ} {r : ℕ} {p q : Place} {ps : List (List ℕ)} → Filled bytes ticks l p m r q → Fills bytes ticks q ps →
       Fills bytes ticks p (take r m ∷ ps)
@@ -75,7 +78,8 @@ joined (x ∷ xs) = x ++ joined xs
 -- the pieces in order are the whole
 pub pieces-whole : {bytes : List ℕ} {ticks : ℕ} {p : Place} {ps : List (List ℕ)} → Fills bytes ticks p ps → joined ps ≡ textFrom bytes ticks p
 unfolding textFrom ticksText
-pieces-whole {bytes} {ticks} {p} (done h) =
+pieces-whole {bytes} {ticks} (done {l} {m} {r} {p} h room short w) =
     let none : ticks - p .tick ≡ 0 = omega arith in
-    rw none (append-nil (closingText (p .tick) (p .totals)))
+    let line = closingText (p .tick) (p .totals) in
+    append-nil (take r m) ∙ front w (omega arith) ∙ has-room lineRoom l 0 line room ∙ rw none refl
 pieces-whole {bytes} {ticks} (more {l} {m} {r} {p} {q} {ps} f later) = ap (λ (x : List ℕ). take r m ++ x) (pieces-whole later) ∙ sym (filled-text f)

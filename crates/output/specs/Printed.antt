@@ -40,7 +40,7 @@ lastOf (x ∷ y ∷ xs) = lastOf (y ∷ xs)
 abbrev pub isX : List ℕ → Bool
 isX line = eqb (getD line 0 0) 88 && eqb (getD line 1 0) 44
 
--- its third field is one letter
+-- its third field is the letter c alone
 abbrev pub third : ℕ → List ℕ → Bool
 third c line = eqb (length (getD (fieldsOf line) 2 [])) 1 && eqb (getD (getD (fieldsOf line) 2 []) 0 0) c
 

@@ -24,7 +24,7 @@ use Rattle.fields.specs.ReadBack.{digits-last}
 use Rattle.plan.specs.PlanBack.{without, split-at, digits-without}
 use Rattle.heading.specs.Heading.{numbered, verdictText, headText}
 use Rattle.output.specs.Output.{answerText, occupantLine, finishText}
-use Rattle.output.specs.Printed.{closed, isX, Figure, ticks, idle, rows, requests, drops, adds, sumX}
+use Rattle.output.specs.Printed.{isX, Figure, ticks, idle, rows, requests, drops, adds, sumX}
 
 -- ---- text that is closed lines
 -- lines in front of pieces

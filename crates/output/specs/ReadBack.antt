@@ -14,7 +14,7 @@ use Rattle.server.specs.Limits.{lastClock}
 use Rattle.table.specs.declared.Table.{Table}
 use Rattle.table.specs.declared.State.{State}
 use Rattle.table.specs.Limits.{maxTasks}
-use Rattle.table.specs.Refusal.{number, passed}
+use Rattle.table.specs.Refusal.{passed}
 use Rattle.table.specs.State.{tableCheck, fit, setUpCall}
 use Rattle.table.specs.Model.{modelOf, written}
 use Rattle.table.specs.Facts.{fit-facts, table-facts}

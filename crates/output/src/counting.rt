@@ -10,14 +10,14 @@ use rules::TickAnswer;
 use scheduler::Recording;
 
 // The largest number.
-const LAST: u32 = 4294967295;
+const MAX_NUMBER: u32 = 4294967295;
 
 // The sum of two numbers; the largest number where it does not fit.
 fn sum(a: u32, b: u32) -> u32
     ensures { λ r. ⌜ r ≡ cappedSum a b ⌝ }
 {
-    if LAST - a < b {
-        return LAST;
+    if MAX_NUMBER - a < b {
+        return MAX_NUMBER;
     }
     a + b
 }

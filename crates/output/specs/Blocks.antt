@@ -17,12 +17,13 @@ use Rattle.table.specs.declared.State.{State}
 use Rattle.table.specs.declared.Checked.{Checked}
 use Rattle.table.specs.Refusal.{passed}
 use Rattle.table.specs.Model.{taskSetOf, modelOf}
+use Rattle.table.specs.State.{fit}
 use Rattle.rules.specs.declared.Entry.{Entry}
 use Rattle.rules.specs.declared.Occupant.{Occupant}
 use Rattle.rules.specs.declared.Turn.{Turn}
 use Rattle.rules.specs.declared.Ticked.{Ticked}
 use Rattle.rules.specs.Tick.{workedQueue, finishOf, turnAt}
-use Rattle.rules.specs.Calls.{entryBy, entryOf, ticked, stateAfter, tickCall, ranBy, runState, runEntries, runCheck, runList}
+use Rattle.rules.specs.Calls.{clockAllows, entryBy, entryOf, ticked, stateAfter, tickCall, ranBy, runState, runEntries, runCheck, runList}
 use Rattle.rules.specs.Laws.{Sized}
 use Rattle.scheduler.specs.declared.Recording.{Recording}
 use Rattle.scheduler.specs.Parts.{blockTicks, mayRun, allowance, idleEntries, blockCall}
@@ -99,9 +100,12 @@ worked-less (Turn.Task i) q k h = unfinished-less q (suc k) k (omega arith) h
 worked-less Turn.Budget q k h = served-less q k h
 worked-less Turn.Spare q k h = served-less q k h
 
+pub fit-ran : (s : State) → fit s ≡ true → clockAllows s 1 ≡ true → tickCall s ≡ ranBy s (ticked s)
+fit-ran s f c = rw (f, c) refl
+
 module _ (s : State) (may : mayRun 1 s ≡ true) where
   tick-ran : tickCall s ≡ ranBy s (ticked s)
-  tick-ran = let f = may-fit s may in rw (f .0, f .1) refl
+  tick-ran = let f = may-fit s may in fit-ran s (f .0) (f .1)
 
   tick-line : (t k : ℕ) → Unfinished (waitingOf (s .queue)) (suc k) → tickText t (tickCall s .answer) ≡ lineBytes (entryLine t (entryOf (ticked s)))
   tick-line t k h =

@@ -66,8 +66,8 @@ two-drops :
 unfolding rules text.rules plan.rules overlay
 two-drops = refl
 
--- sums over X lines, of a text with one idle tick, two of a task, three of requests, drops in each, and lines of other letters between
--- them; what is not closed is no line
+-- sums over X lines, of a text with one idle tick, two of a task and three of requests, drops in three of them, and lines of other letters
+-- between them; what is not closed is no line
 abbrev someLines : List ℕ
 someLines =
     66 ∷ 44 ∷ 48 ∷ 44 ∷ 54 ∷ 10 ∷ 78 ∷ 44 ∷ 48 ∷ 44 ∷ 55 ∷ 44 ∷ 53 ∷ 10 ∷ 88 ∷ 44 ∷ 48 ∷ 44 ∷ 73 ∷ 44 ∷ 48 ∷ 44 ∷ 49 ∷ 10 ∷ 88 ∷ 44 ∷ 49 ∷ 44 ∷ 84 ∷ 44 ∷ 51 ∷ 44 ∷ 48 ∷ 10

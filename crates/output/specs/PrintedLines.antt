@@ -7,12 +7,12 @@ use mathlib.Core.List.{List, [], _∷_, _++_, append-nil, append-assoc}
 use lib.ListN.{take}
 use lib.Dec.{eqb}
 use Rattle.lists.specs.Numbers.{bitOf}
-use Rattle.lists.specs.Tests.{never}
 use Rattle.queue.specs.declared.Finish.{Finish}
 use Rattle.table.specs.declared.Checked.{Checked}
 use Rattle.table.specs.Refusal.{number}
 use Rattle.bounds.specs.declared.Admission.{Admission}
 use Rattle.rules.specs.declared.Occupant.{Occupant}
+use Rattle.rules.specs.Calls.{occupantKind}
 use Rattle.text.specs.declared.Part.{Part}
 use Rattle.text.specs.declared.Line.{Line}
 use Rattle.text.specs.Decimal.{maxDigits, decimal}
@@ -21,9 +21,10 @@ use Rattle.text.specs.ReadBack.{decimal-digits, decimal-value}
 use Rattle.lines.specs.Lines.{taskBoundLine, serverBoundLine, admittedLine, refusedLine, tickLine, finishLine}
 use Rattle.fields.specs.Text.{Pieces, end, piece, split, maxNumber}
 use Rattle.fields.specs.ReadBack.{digits-last}
-use Rattle.plan.specs.PlanBack.{without, split-at, digits-without}
+use Rattle.plan.specs.PlanBack.{without, split-at, without-append, digits-without}
 use Rattle.heading.specs.Heading.{numbered, verdictText, headText}
 use Rattle.output.specs.Output.{answerText, occupantLine, finishText}
+use Rattle.output.specs.Blocks.{letter}
 use Rattle.output.specs.Printed.{isX, Figure, ticks, idle, rows, requests, drops, adds, sumX}
 
 -- ---- text that is closed lines
@@ -100,25 +101,15 @@ part-without (Part.Number x) h = digits-without 10 (omega arith) (decimal x) (de
 part-without (Part.Letter c) h = rw h refl
 part-without Part.Nothing h = refl
 
-without-append : (l m : List ℕ) → without 10 l ≡ true → without 10 m ≡ true → without 10 (l ++ m) ≡ true
-unfolding without
-without-append [] m h k = k
-without-append (b ∷ bs) m h k = by (eqb b 10) h (without-append bs m)
-  where
-    by : (d : Bool) → cond d false (without 10 bs) ≡ true → (without 10 bs ≡ true → without 10 m ≡ true → without 10 (bs ++ m) ≡ true) →
-        cond d false (without 10 (bs ++ m)) ≡ true
-    by true e g = never refl e
-    by false e g = g e k
-
 body-without : (l : Line) → Plain l → without 10 (bodyOf l) ≡ true
 unfolding without
 body-without l h =
     rw (h .0)
-    (without-append (partBytes (l .first)) _ (part-without (l .first) (h .1))
-    (without-append (partBytes (l .second)) _ (part-without (l .second) (h .2))
-    (without-append (partBytes (l .third)) _ (part-without (l .third) (h .3))
-    (without-append (partBytes (l .fourth)) _ (part-without (l .fourth) (h .4))
-    (without-append (partBytes (l .fifth)) _ (part-without (l .fifth) (h .5)) refl)))))
+    (without-append 10 (partBytes (l .first)) _ (part-without (l .first) (h .1))
+    (without-append 10 (partBytes (l .second)) _ (part-without (l .second) (h .2))
+    (without-append 10 (partBytes (l .third)) _ (part-without (l .third) (h .3))
+    (without-append 10 (partBytes (l .fourth)) _ (part-without (l .fourth) (h .4))
+    (without-append 10 (partBytes (l .fifth)) _ (part-without (l .fifth) (h .5)) refl)))))
 
 pub line-parted : (l : Line) → Plain l → (rest : List ℕ) → split 10 (lineBytes l ++ rest) ≡ piece (bodyOf l) (split 10 rest)
 line-parted l h rest = ap (split 10) (line-closed l rest) ∙ split-at 10 (bodyOf l) rest (body-without l h)
@@ -179,9 +170,7 @@ module _ (t c id d : ℕ) (plain : eqb c 44 ≡ false) where
 
 -- ---- the lines of a tick
 abbrev pub letterOf : Occupant → ℕ
-letterOf Occupant.Idle = 73
-letterOf (Occupant.Task i) = 84
-letterOf (Occupant.Request id) = 65
+letterOf o = letter (occupantKind o)
 
 pub occupant-printed : (t : ℕ) (o : Occupant) (d : ℕ) → d ≤ maxNumber → Lines (lineBytes (occupantLine t o d)) (ofTick (letterOf o) d)
 occupant-printed t Occupant.Idle d h = tick-printed t 73 0 d refl refl h

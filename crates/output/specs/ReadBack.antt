@@ -15,13 +15,13 @@ use Rattle.table.specs.declared.Table.{Table}
 use Rattle.table.specs.declared.State.{State}
 use Rattle.table.specs.Limits.{maxTasks}
 use Rattle.table.specs.Refusal.{passed}
-use Rattle.table.specs.State.{tableCheck, fit, setUpCall}
+use Rattle.table.specs.State.{tableCheck, setUpCall}
 use Rattle.table.specs.Model.{modelOf, written}
 use Rattle.table.specs.Facts.{fit-facts, table-facts}
 use Rattle.bounds.specs.Admission.{admissionCall}
 use Rattle.rules.specs.declared.Occupant.{Occupant}
 use Rattle.rules.specs.declared.Ticked.{Ticked}
-use Rattle.rules.specs.Calls.{asked, requestCheck, clockAllows, ticked, tickCall, ranBy, occupantKind, entryBy}
+use Rattle.rules.specs.Calls.{asked, requestCheck, ticked, tickCall, ranBy, occupantKind, entryBy}
 use Rattle.rules.specs.Laws as calls
 use Rattle.rules.specs.Laws.{reached-fit, tick-few}
 use Rattle.text.specs.declared.Line.{Line}
@@ -39,6 +39,7 @@ use Rattle.heading.specs.Heading.{headText}
 use Rattle.output.specs.declared.Totals.{Totals}
 use Rattle.output.specs.Totals.{noTotals, counted, answered, closingText, cappedSum, sum-fits}
 use Rattle.output.specs.Output.{occupantLine, finishText, tickText, arrivalCall, dueText, afterDue, later, ticksText, textBy, scheduleText}
+use Rattle.output.specs.Blocks.{fit-ran}
 use Rattle.output.specs.Printed.{closed, unclosed, linesOf, lastOf, Figure, ticks, idle, rows, requests, drops, sumX, overX, Totalled}
 use Rattle.output.specs.PrintedLines.{Lines, answer-printed, bodyOf, finish-printed, head-printed, inFront, letterOf, line-parted, no-lines, nothing, occupant-printed, ofTick, same-sums, sum-append, then}
 
@@ -175,9 +176,6 @@ due-printed table t s (a ∷ rest) r = by (eqb (a .tick) t) refl (due-printed ta
     by false e on = record { lines = rw e no-lines; reached = rw e r; clock = rw e refl }
 
 module _ (table : Table) (sized : length (table .tasks) ≡ maxTasks) (ok : passed (tableCheck table) ≡ true) where
-  tick-ran : (z : State) → fit z ≡ true → clockAllows z 1 ≡ true → tickCall z ≡ ranBy z (ticked z)
-  tick-ran z f c = rw (f, c) refl
-
   ran :
       (k t : ℕ) (u : Totals) (s : State) (rest : List Arrival) → t + k ≤ maxTicks → calls.Reached table s → s .progress .clock ≡ t → Small t u →
       Ran k t u (ticksText k t u s rest)
@@ -187,7 +185,7 @@ module _ (table : Table) (sized : length (table .tasks) ≡ maxTasks) (ok : pass
       let z = afterDue t s rest in
       let due = due-printed table t s rest r in
       let kept = reached-fit table sized ok z (due .reached) in
-      let e = tick-ran z (kept .0) (le-leb (z .progress .clock + 1) lastClock (omega (arith, due .clock, c))) in
+      let e = fit-ran z (kept .0) (le-leb (z .progress .clock + 1) lastClock (omega (arith, due .clock, c))) in
       let few : ticked z .drops ≤ maxTasks = omega (arith, tick-few z, table-facts (z .table) (fit-facts z (kept .0) .passes) .count) in
       let on =
       ran k (suc t) (counted u (entryBy (ticked z .occupant) (ticked z .drops))) (ranBy z (ticked z) .state) (later t rest) (omega arith)

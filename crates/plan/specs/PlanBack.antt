@@ -48,6 +48,16 @@ module _ (c : ℕ) where
   split-at [] rest h = rw (eq-eqb c c refl) refl
   split-at (b ∷ bs) rest h = split-step b bs rest (eqb b c) refl h (split-at bs rest)
 
+  pub without-append : (l m : List ℕ) → without c l ≡ true → without c m ≡ true → without c (l ++ m) ≡ true
+  unfolding without
+  without-append [] m h k = k
+  without-append (b ∷ bs) m h k = by (eqb b c) h (without-append bs m)
+    where
+      by : (d : Bool) → cond d false (without c bs) ≡ true → (without c bs ≡ true → without c m ≡ true → without c (bs ++ m) ≡ true) →
+          cond d false (without c (bs ++ m)) ≡ true
+      by true e g = never refl e
+      by false e g = g e k
+
   module _ (low : c < 48) where
     pub digits-without : (l : List ℕ) → digits l ≡ true → without c l ≡ true
     unfolding without digits
@@ -56,17 +66,10 @@ module _ (c : ℕ) where
         let f = first-digit c low b bs (isDigit b) refl h in
         rw (apart c low b (f .0)) (digits-without bs (f .1))
 
-    digits-then-without : (l m : List ℕ) → digits l ≡ true → without c m ≡ true → without c (l ++ m) ≡ true
-    unfolding without digits
-    digits-then-without [] m h k = k
-    digits-then-without (b ∷ bs) m h k =
-        let f = first-digit c low b bs (isDigit b) refl h in
-        rw (apart c low b (f .0)) (digits-then-without bs m (f .1) k)
-
 fields-without : (v : ℕ) (vs : List ℕ) → without 10 (fields v vs) ≡ true
 unfolding without
 fields-without v [] = digits-without 10 (omega arith) (decimal v) (decimal-digits v)
-fields-without v (w ∷ vs) = digits-then-without 10 (omega arith) (decimal v) (44 ∷ fields w vs) (decimal-digits v) (fields-without w vs)
+fields-without v (w ∷ vs) = without-append 10 (decimal v) (44 ∷ fields w vs) (digits-without 10 (omega arith) (decimal v) (decimal-digits v)) (fields-without w vs)
 
 -- ---- lines
 -- a line as it is printed, without its line feed

@@ -5,7 +5,7 @@ told from the right one.
 usage, from the repository's root:  tests/differential/wrong.py [LABEL ..]
 
 Each wrong/LABEL.edit names a file of the second implementation, or behind/src/FILE for one of tests/differential/src, a text that stands
-in it once, what to put in its place (\\n is a line feed), and which comparison must notice: plans, calls or both.
+in it once, what to put in its place (\\n is a line feed), and which comparison must notice: plans, calls, both of these, or unnoticed.
 """
 import os
 import re
@@ -18,6 +18,15 @@ EDITS = "tests/differential/wrong"
 TOOLS = "target/tests/release"
 TARGET = "target/wrong"
 SEED = "7"
+
+# Each comparison is a program of TOOLS: what it is given, and how many cases.
+COMPARISONS = {
+    "plans": ("schedule", "20000"),
+    "calls": ("libstandin.so", "200000"),
+    "unnoticed": ("libstandin.so", "20000"),
+}
+# The comparisons that an edit's `by` names.
+BY = {"both": ["plans", "calls"], **{name: [name] for name in COMPARISONS}}
 
 
 def read_edit(label):
@@ -56,30 +65,30 @@ def rustc(*arguments):
 def build(edit, folder):
     write_sources(edit, folder)
     second = f"second={folder}/libsecond.rlib"
+    wanted = {COMPARISONS[name][0] for name in BY[edit["by"]]}
     rustc("--crate-type", "rlib", "--crate-name", "second", f"{folder}/lib.rs", "-o", f"{folder}/libsecond.rlib")
-    if edit["by"] != "calls":
+    if "schedule" in wanted:
         rustc("--crate-name", "schedule", "--extern", second, f"{folder}/main.rs", "-o", f"{folder}/schedule")
-    if edit["by"] != "plans":
+    if "libstandin.so" in wanted:
         rustc("--crate-type", "cdylib", "--crate-name", "standin", "--extern", second, f"{folder}/behind/standin.rs", "-o", f"{folder}/libstandin.so")
 
 
 def notices(command):
-    """What the comparison says of its first difference, or nothing."""
+    """What the comparison says of its first difference, or nothing; that something was never reached is no difference."""
     done = subprocess.run(command, stdout=subprocess.PIPE, stderr=subprocess.DEVNULL, text=True, timeout=120)
-    found = re.search(r"(plan|list) (\d+) of seed", done.stdout)
+    found = re.search(r"(plan|list|pair) (\d+) of seed", done.stdout)
     if found:
         return f"{found[1]} {found[2]}"
-    return "crash" if done.returncode != 0 else ""
+    return "crash" if done.returncode != 0 and "never reached" not in done.stdout else ""
 
 
 def check(label):
     edit, folder = read_edit(label), f"{TARGET}/{label}"
     build(edit, folder)
     noticed = []
-    if edit["by"] != "calls":
-        noticed.append(notices([f"{TOOLS}/plans", f"{folder}/schedule", "20000", SEED]))
-    if edit["by"] != "plans":
-        noticed.append(notices([f"{TOOLS}/calls", f"{folder}/libstandin.so", "200000", SEED]))
+    for name in BY[edit["by"]]:
+        given, count = COMPARISONS[name]
+        noticed.append(notices([f"{TOOLS}/{name}", f"{folder}/{given}", count, SEED]))
     print(f"{label}: {', '.join(one or 'NOT NOTICED' for one in noticed)}", flush=True)
     return all(noticed)
 

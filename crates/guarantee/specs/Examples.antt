@@ -1,8 +1,9 @@
 -- The guarantee's hypothesis can be met under each kind of server by a table whose requests load it, and a table that is not admitted
--- can drop. All by computation.
+-- can drop. Of request 2/13: what tasks above the server do not notice under each kind, and that a task below does. All by computation.
 use Prim.Native.Nat.{ℕ, zero, suc}
+use native.Mathlib.Omega.{arith}
 use mathlib.Core.Path.{_≡_, refl}
-use mathlib.Core.Bool.{Bool, true, false, _&&_}
+use mathlib.Core.Bool.{Bool, true, false, cond, _&&_}
 use mathlib.Core.List.{List, [], _∷_, map}
 use lib.Dec.{ltb}
 use lib.ListN.{length, replicate}
@@ -14,7 +15,8 @@ use Rattle.rules.specs.declared.Entry.{Entry}
 use Rattle.rules.specs.Play.{task, server, table}
 use Rattle.guarantee.specs.Calls.{Call, request, tick, run, RanTick, ticks, clockAfter, hasTask, hasRequest}
 use Rattle.guarantee.specs.Guarantee.{boundAt, Guarantee}
-use Rattle.guarantee.specs.Kept.{guarantee}
+use Rattle.guarantee.specs.Unnoticed.{acceptedTicks, runsIn, droppedIn, Unnoticed}
+use Rattle.guarantee.specs.Kept.{guarantee, unnoticed}
 
 -- one row 3, 6, 2, D
 abbrev one : ℕ → ℕ → ℕ → ℕ → ℕ → Table
@@ -82,3 +84,84 @@ no-bound = refl
 drops : map (λ (x : RanTick). x .entry .drops) (ticks tight late) ≡ 0 ∷ 0 ∷ 0 ∷ 0 ∷ 0 ∷ 0 ∷ 0 ∷ 0 ∷ 1 ∷ []
 unfolding overlay
 drops = refl
+
+-- ---- request 2/13: tasks 0 and 1 stand above the server, and task 1 cannot be done by its deadline: the table is not admitted. Task 2
+-- stands at the server's place, below it; under background service it is above too.
+abbrev crowded : ℕ → Table
+crowded zero = table (task 0 4 2 4 ∷ task 0 4 2 3 ∷ task 0 4 1 4 ∷ []) (server 0 3 0 0)
+crowded (suc k) = table (task 0 4 2 4 ∷ task 0 4 2 3 ∷ task 0 4 1 4 ∷ []) (server (suc k) 2 4 2)
+
+-- nine ticks without a request, and nine with more work than can be served, refused calls among them
+abbrev calm : List Call
+calm = run 9 (lent 9) ∷ []
+
+abbrev pressed : List Call
+pressed = request 7 40 ∷ request 8 0 ∷ tick ∷ run 5 (lent 4) ∷ run 3 (lent 3) ∷ request 9 1 ∷ run 0 [] ∷ run 5 (lent 7) ∷ []
+
+-- under each kind
+abbrev each : {A : Type 0} → (Table → A) → List A
+each f = map (λ (k : ℕ). f (crowded k)) (0 ∷ 1 ∷ 2 ∷ 3 ∷ [])
+
+abbrev four : {A : Type 0} → A → List A
+four a = a ∷ a ∷ a ∷ a ∷ []
+
+not-admitted : each (λ t. admissionCall t .admitted) ≡ four false
+unfolding overlay
+not-admitted = refl
+
+nine-ticks : (each (λ t. acceptedTicks t calm) ≡ four 9) × (each (λ t. acceptedTicks t pressed) ≡ four 9)
+unfolding overlay
+nine-ticks = (refl, refl)
+
+-- the numbers that pass, of the n from u on
+abbrev those : (ℕ → Bool) → ℕ → ℕ → List ℕ
+those f u zero = []
+those f u (suc n) = cond (f u) (u ∷ those f (suc u) n) (those f (suc u) n)
+
+-- the ticks that task i has, and those in which it is dropped
+abbrev itsTicks : List Call → ℕ → List (List ℕ)
+itsTicks calls i = each (λ t. those (runsIn t calls i) 0 9)
+
+abbrev itsDrops : List Call → ℕ → List (List ℕ)
+itsDrops calls i = each (λ t. those (droppedIn t calls i) 0 9)
+
+-- task 1, above the server: ticks 2 and 6, and dropped in ticks 3 and 7, in both lists
+above-runs : (itsTicks calm 1 ≡ four (2 ∷ 6 ∷ [])) × (itsTicks pressed 1 ≡ four (2 ∷ 6 ∷ []))
+unfolding overlay
+above-runs = (refl, refl)
+
+above-dropped : (itsDrops calm 1 ≡ four (3 ∷ 7 ∷ [])) × (itsDrops pressed 1 ≡ four (3 ∷ 7 ∷ []))
+unfolding overlay
+above-dropped = (refl, refl)
+
+-- as the theorem says: of these two lists under each kind, for example of task 1 and tick 6
+unnoticed-each : Unnoticed (crowded 0) calm pressed × Unnoticed (crowded 1) calm pressed × Unnoticed (crowded 2) calm pressed × Unnoticed (crowded 3) calm pressed
+unfolding overlay
+unnoticed-each =
+    (unnoticed (crowded 0) calm pressed refl, unnoticed (crowded 1) calm pressed refl, unnoticed (crowded 2) calm pressed refl, unnoticed (crowded 3) calm pressed refl)
+
+above-same : runsIn (crowded 2) calm 1 6 ≡ runsIn (crowded 2) pressed 1 6
+unfolding overlay
+above-same = unnoticed-each .2 .runs 1 6 (omega arith, omega arith) (omega arith)
+
+-- task 2, below it under kinds 1 to 3: ticks 3 and 7 and no drop without requests, no tick and dropped in ticks 4 and 8 with them
+below-runs : (itsTicks calm 2 ≡ four (3 ∷ 7 ∷ [])) × (itsTicks pressed 2 ≡ (3 ∷ 7 ∷ []) ∷ [] ∷ [] ∷ [] ∷ [])
+unfolding overlay
+below-runs = (refl, refl)
+
+below-dropped : (itsDrops calm 2 ≡ four []) × (itsDrops pressed 2 ≡ [] ∷ (4 ∷ 8 ∷ []) ∷ (4 ∷ 8 ∷ []) ∷ (4 ∷ 8 ∷ []) ∷ [])
+unfolding overlay
+below-dropped = (refl, refl)
+
+-- so the drops that are reported, which hold all tasks, differ: here under deferrable service
+abbrev figures : List Call → List ℕ
+figures calls = map (λ (x : RanTick). x .entry .drops) (ticks (crowded 2) calls)
+
+reported-differ : (figures calm ≡ 0 ∷ 0 ∷ 0 ∷ 1 ∷ 0 ∷ 0 ∷ 0 ∷ 1 ∷ 0 ∷ []) × (figures pressed ≡ 0 ∷ 0 ∷ 0 ∷ 1 ∷ 1 ∷ 0 ∷ 0 ∷ 1 ∷ 1 ∷ [])
+unfolding overlay
+reported-differ = (refl, refl)
+
+-- and of a list with fewer ticks nothing can be said past its last: task 0 has tick 8 of nine, and of eight there is none
+shorter-ends : (runsIn (crowded 2) calm 0 8 ≡ true) × (runsIn (crowded 2) (run 8 (lent 8) ∷ []) 0 8 ≡ false)
+unfolding overlay
+shorter-ends = (refl, refl)

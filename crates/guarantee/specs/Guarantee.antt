@@ -1,4 +1,4 @@
--- Demand 3: what an admitted table keeps, whatever the calls are. That it does is the theorem in Kept.
+-- Demand 3: what an admitted table keeps, whatever the calls are. That it does is the theorem `guarantee` in Kept.
 use Prim.Native.Nat.{ℕ, _+_, _≤_, _<_}
 use mathlib.Core.Path.{_≡_}
 use mathlib.Core.Bool.{Bool, true, false}

@@ -22,3 +22,4 @@ pub mod Lift
 pub mod Played
 pub mod Reports
 pub mod Together
+pub mod Quiet

@@ -1,11 +1,11 @@
 -- A stretch of a list, and how many of its elements pass a test.
 use Prim.Native.Nat.{ℕ, zero, suc, _+_, _≤_, _<_}
 use native.Mathlib.Omega.{arith}
-use mathlib.Core.Path.{_≡_, refl, ap, _∙_}
+use mathlib.Core.Path.{_≡_, refl, sym, ap, _∙_}
 use mathlib.Core.Bool.{Bool, true, false, cond}
 use mathlib.Core.List.{List, [], _∷_, map}
 use lib.ListN.{length, take, drop, getD}
-use Rattle.lists.specs.Lists.{count}
+use Rattle.lists.specs.Lists.{count, zipWith}
 
 -- the elements r to r + n − 1
 abbrev pub stretch : {A : Type 0} → ℕ → ℕ → List A → List A
@@ -38,6 +38,19 @@ tally-stretch f d zero (suc n) (x ∷ xs) h =
     (tally-stretch f d zero n xs (omega arith) ∙ tally-shift (λ u. f (getD (x ∷ xs) u d)) 0 n)
 tally-stretch f d (suc r) n [] h = absurd (omega arith)
 tally-stretch f d (suc r) n (x ∷ xs) h = tally-stretch f d r n xs (omega arith) ∙ tally-shift (λ u. f (getD (x ∷ xs) u d)) r n
+
+tally-none : (f : ℕ → Bool) → ((u : ℕ) → f u ≡ false) → (r n : ℕ) → tally f r n ≡ 0
+tally-none f h r zero = refl
+tally-none f h r (suc n) = omega (arith, ap {B = ℕ} (λ (b : Bool). cond b 1 0) (h r), tally-none f h (suc r) n)
+
+-- how many pass of two lists joined by a test that nothing passes with b, as which the second list goes on
+pub tally-zip : {A B : Type 0} (f : A → B → Bool) (a : A) (b : B) → ((x : A) → f x b ≡ false) → (xs : List A) (ys : List B) →
+    count (zipWith f xs ys) ≡ tally (λ i. f (getD xs i a) (getD ys i b)) 0 (length xs)
+tally-zip f a b none [] ys = refl
+tally-zip f a b none (x ∷ xs) [] = sym (tally-none (λ i. f (getD (x ∷ xs) i a) b) (λ i. none (getD (x ∷ xs) i a)) 0 (suc (length xs)))
+tally-zip f a b none (x ∷ xs) (y ∷ ys) =
+    count-cons (f x y) (zipWith f xs ys) ∙ ap (λ (k : ℕ). cond (f x y) 1 0 + k)
+    (tally-zip f a b none xs ys ∙ tally-shift (λ i. f (getD (x ∷ xs) i a) (getD (y ∷ ys) i b)) 0 (length xs))
 
 -- two tests that agree on the stretch
 pub tally-same : (f g : ℕ → Bool) (r n : ℕ) → ((u : ℕ) → r ≤ u → u < r + n → f u ≡ g u) → tally f r n ≡ tally g r n

@@ -1,4 +1,4 @@
-//! The second implementation behind the library's interface: what the test of calls is itself tested with.
+//! The second implementation behind the library's interface: what the tests of calls and of pairs of lists are themselves tested with.
 
 use crate::abi::*;
 use crate::convert::*;

@@ -21,21 +21,7 @@ use Rattle.rules.specs.declared.Entry.{Entry}
 use Rattle.rules.specs.declared.Turn.{Turn}
 use Rattle.rules.specs.Tick.{workedQueue, finishOf, turnAt, tick}
 use Rattle.rules.specs.Calls.{requestCheck, asked, ticksCheck, ticked, stateAfter, tickBy, runCheck, entryOf, runState, runEntries}
-use Rattle.guarantee.specs.Calls.{Call, request, run, after, final, Event, accepted, ran, tickEvents, runFinishes, events, RanTick, finishes, ticksFrom}
-
--- ---- the states at which the ticks of a list of calls begin
-abbrev pub runStarts : ℕ → State → List State
-runStarts zero s = []
-runStarts (suc k) s = s ∷ runStarts k (stateAfter s)
-
-abbrev pub starts : State → Call → List State
-starts s (request id work) = []
-starts s Call.tick = cond (passed (ticksCheck s 1)) (s ∷ []) []
-starts s (run k lent) = cond (passed (runCheck s k (length lent))) (runStarts k s) []
-
-abbrev pub startsAll : State → List Call → List State
-startsAll s [] = []
-startsAll s (c ∷ cs) = starts s c ++ startsAll (after s c) cs
+use Rattle.guarantee.specs.Calls.{Call, request, run, final, Event, accepted, ran, tickEvents, runFinishes, events, RanTick, finishes, ticksFrom, runStarts, startsAll}
 
 -- ---- what is reported of the tick of a state
 abbrev pub queued : State → ℕ

@@ -1,10 +1,10 @@
 -- The ticks of a list of calls, played from the fresh state of a table that says no more tasks are in use than it has slots, are a run
 -- of its task set.
-use Prim.Native.Nat.{ℕ, zero, suc, _-_, _≤_, _<_}
+use Prim.Native.Nat.{ℕ, zero, suc, _≤_, _<_}
 use native.Mathlib.Omega.{arith}
 use mathlib.Core.Path.{_≡_, refl, ap, ap₂, _∙_}
 use mathlib.Core.List.{List, [], _∷_, _++_}
-use lib.ListN.{length, take, drop, getD, length-append, length-take, replicate}
+use lib.ListN.{length, take, drop, length-append, length-take, replicate}
 use Rattle.lists.specs.Lists.{overlay, zipWith}
 use Rattle.server.specs.Server.{freshServer}
 use Rattle.queue.specs.Queue.{waits}
@@ -19,12 +19,12 @@ use Rattle.table.specs.State.{freshState}
 use Rattle.rules.specs.Tick.{opened, kindAt, leftsAt, turnAt, Tick, tick}
 use Rattle.rules.specs.Calls.{ticked, stateAfter}
 use Rattle.rules.specs.Laws.{worked-length}
-use Rattle.guarantee.specs.Calls.{Call, final}
+use Rattle.guarantee.specs.Calls.{Call, final, begins, stateBefore}
 use Rattle.guarantee.specs.Proof.Items.{Item, server, Cells, fresh, freshAll}
 use Rattle.guarantee.specs.Proof.Tie.{onlyTasks, insert, taskCells, insertCell, nth}
 use Rattle.guarantee.specs.Proof.Places.{cells-same}
 use Rattle.guarantee.specs.Proof.Run.{Run}
-use Rattle.guarantee.specs.Proof.Lift.{startsAll, Behind, linked, linked-first, linked-next}
+use Rattle.guarantee.specs.Proof.Lift.{Behind, linked, linked-first, linked-next}
 
 -- ---- lists
 zip-short : {A B C : Type 0} (f : A → B → C) (xs : List A) (ys : List B) → length xs ≤ length ys → length (zipWith f xs ys) ≡ length xs
@@ -64,82 +64,85 @@ insert-fresh zero xs z = ap (λ (r : Cells (onlyTasks xs)). (fresh z, r)) (only-
 insert-fresh (suc s) [] z = refl
 insert-fresh (suc s) (x ∷ xs) z = ap (λ (r : Cells (insert s xs z)). (0, r)) (insert-fresh s xs z)
 
-module _ (t : Table) (few : t .n ≤ maxTasks) (calls : List Call) where
+-- the model before tick u
+abbrev pub modelBefore : Table → List Call → ℕ → Model
+modelBefore t calls u = modelOf (stateBefore t calls u)
+
+module _ (t : Table) (calls : List Call) where
   abbrev p : TaskSet
   p = taskSetOf t
 
-  -- the states at which the ticks begin, and the one after the list
-  abbrev pub begins : List State
-  begins = startsAll (freshState t) calls
+  -- how many ticks ran
+  abbrev pub N : ℕ
+  N = length (begins t calls)
 
-  abbrev pub ends : State
-  ends = final (freshState t) calls
+  abbrev at : ℕ → State
+  at u = stateBefore t calls u
 
-  abbrev pub stateAt : ℕ → State
-  stateAt u = getD begins u ends
+  abbrev m : ℕ → Model
+  m u = modelBefore t calls u
 
-  abbrev pub modelAt : ℕ → Model
-  modelAt u = modelOf (stateAt u)
+  first : Behind (freshState t) (at 0)
+  first = linked-first (freshState t) (final (freshState t) calls) (begins t calls) (linked calls (freshState t))
 
-  first : Behind (freshState t) (stateAt 0)
-  first = linked-first (freshState t) ends begins (linked calls (freshState t))
+  next : (u : ℕ) → u < N → Behind (stateAfter (at u)) (at (suc u))
+  next u h = linked-next (freshState t) (final (freshState t) calls) (begins t calls) (linked calls (freshState t)) u h
 
-  next : (u : ℕ) → u < length begins → Behind (stateAfter (stateAt u)) (stateAt (suc u))
-  next u h = linked-next (freshState t) ends begins (linked calls (freshState t)) u h
-
-  pub table-is : (u : ℕ) → u ≤ length begins → stateAt u .table ≡ t
+  pub table-is : (u : ℕ) → u ≤ N → at u .table ≡ t
   table-is zero h = first .table
   table-is (suc u) h = next u h .table ∙ table-is u (omega arith)
 
-  pub clock-is : (u : ℕ) → u ≤ length begins → stateAt u .progress .clock ≡ u
+  pub clock-is : (u : ℕ) → u ≤ N → at u .progress .clock ≡ u
   clock-is zero h = ap (λ (q : Progress). q .clock) (first .progress)
   clock-is (suc u) h = omega (arith, ap (λ (q : Progress). q .clock) (next u h .progress), clock-is u (omega arith))
 
   -- the tick of a state is that of the task set at its model
-  pub ticked-is : (u : ℕ) → u ≤ length begins → ticked (stateAt u) ≡ tick p (modelAt u)
-  ticked-is u h = ap (λ (y : Table). tick (taskSetOf y) (modelAt u)) (table-is u h)
+  pub ticked-is : (u : ℕ) → u ≤ N → ticked (at u) ≡ tick p (m u)
+  ticked-is u h = ap (λ (y : Table). tick (taskSetOf y) (m u)) (table-is u h)
 
   few-tasks : length (p .tasks) ≤ t .n
   few-tasks = omega (arith, length-take (t .n) (t .tasks))
 
-  long : (u : ℕ) → u ≤ length begins → length (p .tasks) ≤ length (stateAt u .progress .left) → length (p .tasks) ≤ length (modelAt u .lefts)
-  long u h l = omega (arith, l, few-tasks, length-take (stateAt u .table .n) (stateAt u .progress .left), ap (λ (y : Table). y .n) (table-is u h))
+  long : (u : ℕ) → u ≤ N → length (p .tasks) ≤ length (at u .progress .left) → length (p .tasks) ≤ length (m u .lefts)
+  long u h l = omega (arith, l, few-tasks, length-take (at u .table .n) (at u .progress .left), ap (λ (y : Table). y .n) (table-is u h))
 
-  new-long : (u : ℕ) → length (p .tasks) ≤ length (modelAt u .lefts) → length (tick p (modelAt u) .next .lefts) ≡ length (p .tasks)
+  new-long : (u : ℕ) → length (p .tasks) ≤ length (m u .lefts) → length (tick p (m u) .next .lefts) ≡ length (p .tasks)
   new-long u l =
-      worked-length (turnAt p (modelAt u)) (leftsAt p (modelAt u)) ∙ zip-short (opened (modelAt u .clock)) (p .tasks) (modelAt u .lefts) l
+      worked-length (turnAt p (m u)) (leftsAt p (m u)) ∙ zip-short (opened (m u .clock)) (p .tasks) (m u .lefts) l
 
-  left-next : (u : ℕ) → u < length begins → stateAt (suc u) .progress .left ≡ overlay (tick p (modelAt u) .next .lefts) (stateAt u .progress .left)
+  left-next : (u : ℕ) → u < N → at (suc u) .progress .left ≡ overlay (tick p (m u) .next .lefts) (at u .progress .left)
   left-next u h =
-      ap (λ (q : Progress). q .left) (next u h .progress) ∙ ap (λ (x : Tick). overlay (x .next .lefts) (stateAt u .progress .left)) (ticked-is u (omega arith))
+      ap (λ (q : Progress). q .left) (next u h .progress) ∙ ap (λ (x : Tick). overlay (x .next .lefts) (at u .progress .left)) (ticked-is u (omega arith))
 
-  array-long : (u : ℕ) → u ≤ length begins → length (p .tasks) ≤ length (stateAt u .progress .left)
-  array-long zero h = omega (arith, few, few-tasks, ap (λ (q : Progress). length (q .left)) (first .progress))
-  array-long (suc u) h =
-      omega (
-        arith,
-        ap length (left-next u h),
-        overlay-long (tick p (modelAt u) .next .lefts) (stateAt u .progress .left),
-        new-long u
-            (long u (omega arith) (array-long u (omega arith))),
-      )
+  -- where the table says that no more tasks are in use than it has slots
+  module _ (few : t .n ≤ maxTasks) where
+    array-long : (u : ℕ) → u ≤ N → length (p .tasks) ≤ length (at u .progress .left)
+    array-long zero h = omega (arith, few, few-tasks, ap (λ (q : Progress). length (q .left)) (first .progress))
+    array-long (suc u) h =
+        omega (
+          arith,
+          ap length (left-next u h),
+          overlay-long (tick p (m u) .next .lefts) (at u .progress .left),
+          new-long u
+              (long u (omega arith) (array-long u (omega arith))),
+        )
 
-  pub played : Run p modelAt (length begins)
-  played = record {
-    clocks = clock-is;
-    covers = λ u h. long u h (array-long u h);
-    first =
-        ap (λ (q : Progress). insertCell (t .server .place) (p .tasks) (server (kindAt p) (t .server)) (nth (take (stateAt 0 .table .n) (q .left))) (q .server))
-        (first .progress)
-        ∙ cells-same (t .server .place) (p .tasks) (server (kindAt p) (t .server)) (nth (take (stateAt 0 .table .n) (replicate maxTasks 0))) (λ _. 0)
-        (freshServer (kindAt p) (t .server)) (λ i _. zeros (stateAt 0 .table .n) maxTasks i)
-        ∙ insert-fresh (t .server .place) (p .tasks) (server (kindAt p) (t .server));
-    servers = λ u h. ap (λ (q : Progress). q .server) (next u h .progress) ∙ ap (λ (x : Tick). x .next .server) (ticked-is u (omega arith));
-    lefts = λ u h i b.
-        ap₂ (λ (n : ℕ) (ls : List ℕ). nth (take n ls) i) (ap (λ (y : Table). y .n) (table-is (suc u) h)) (left-next u h)
-        ∙ overlay-front (t .n) (tick p (modelAt u) .next .lefts) (stateAt u .progress .left) i
-        (omega (arith, new-long u (long u (omega arith) (array-long u (omega arith))))) (omega (arith, few-tasks));
-    stays = λ u h w.
-        next u h .queue (ap waits (waiting-with (stateAt u .queue) (ticked (stateAt u) .next .queue))
-        ∙ ap (λ (x : Tick). waits (x .next .queue)) (ticked-is u (omega arith)) ∙ w);
-  }
+    pub played : Run p m N
+    played = record {
+      clocks = clock-is;
+      covers = λ u h. long u h (array-long u h);
+      first =
+          ap (λ (q : Progress). insertCell (t .server .place) (p .tasks) (server (kindAt p) (t .server)) (nth (take (at 0 .table .n) (q .left))) (q .server))
+          (first .progress)
+          ∙ cells-same (t .server .place) (p .tasks) (server (kindAt p) (t .server)) (nth (take (at 0 .table .n) (replicate maxTasks 0))) (λ _. 0)
+          (freshServer (kindAt p) (t .server)) (λ i _. zeros (at 0 .table .n) maxTasks i)
+          ∙ insert-fresh (t .server .place) (p .tasks) (server (kindAt p) (t .server));
+      servers = λ u h. ap (λ (q : Progress). q .server) (next u h .progress) ∙ ap (λ (x : Tick). x .next .server) (ticked-is u (omega arith));
+      lefts = λ u h i b.
+          ap₂ (λ (n : ℕ) (ls : List ℕ). nth (take n ls) i) (ap (λ (y : Table). y .n) (table-is (suc u) h)) (left-next u h)
+          ∙ overlay-front (t .n) (tick p (m u) .next .lefts) (at u .progress .left) i
+          (omega (arith, new-long u (long u (omega arith) (array-long u (omega arith))))) (omega (arith, few-tasks));
+      stays = λ u h w.
+          next u h .queue (ap waits (waiting-with (at u .queue) (ticked (at u) .next .queue))
+          ∙ ap (λ (x : Tick). waits (x .next .queue)) (ticked-is u (omega arith)) ∙ w);
+    }

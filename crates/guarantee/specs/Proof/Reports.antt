@@ -18,11 +18,11 @@ use Rattle.table.specs.State.{freshState}
 use Rattle.rules.specs.declared.Entry.{Entry}
 use Rattle.rules.specs.Tick.{Tick, tick}
 use Rattle.rules.specs.Calls.{ticked, stateAfter, entryOf}
-use Rattle.guarantee.specs.Calls.{Call, RanTick, ticks, noTick, tickAt, clockAfter}
+use Rattle.guarantee.specs.Calls.{Call, final, RanTick, ticks, noTick, tickAt, begins, stateBefore, clockAfter}
 use Rattle.guarantee.specs.Guarantee.{NeverEmpty}
 use Rattle.guarantee.specs.Proof.Period.{Backlog}
 use Rattle.guarantee.specs.Proof.Lift.{ranAt, reported, linked-last}
-use Rattle.guarantee.specs.Proof.Played.{begins, ends, stateAt, clock-is, ticked-is, played}
+use Rattle.guarantee.specs.Proof.Played.{N, clock-is, ticked-is, played}
 
 map-at : {A B : Type 0} (f : A → B) (xs : List A) (u : ℕ) (d : B) (e : A) → u < length xs → getD (map f xs) u d ≡ f (getD xs u e)
 map-at f [] u d e h = absurd (omega arith)
@@ -33,47 +33,44 @@ waiting : (q : List Request) → 0 < length q → waits q ≡ true
 waiting [] h = absurd (omega arith)
 waiting (r ∷ q) h = refl
 
-module _ (t : Table) (few : t .n ≤ maxTasks) (calls : List Call) where
+module _ (t : Table) (calls : List Call) where
   abbrev pub p : TaskSet
   p = taskSetOf t
 
-  abbrev pub N : ℕ
-  N = length (begins t few calls)
-
   abbrev pub at : ℕ → State
-  at u = stateAt t few calls u
+  at u = stateBefore t calls u
 
-  pub ticks-are : ticks t calls ≡ map ranAt (begins t few calls)
+  pub ticks-are : ticks t calls ≡ map ranAt (begins t calls)
   ticks-are = reported calls (freshState t)
 
-  pub ticks-long : length (ticks t calls) ≡ N
-  ticks-long = ap length ticks-are ∙ length-map (begins t few calls) ranAt
+  pub ticks-long : length (ticks t calls) ≡ N t calls
+  ticks-long = ap length ticks-are ∙ length-map (begins t calls) ranAt
 
-  pub clock-after : clockAfter t calls ≡ N
+  pub clock-after : clockAfter t calls ≡ N t calls
   clock-after =
-      ap (λ (s : State). s .progress .clock) (sym (linked-last (ends t few calls) (begins t few calls))) ∙ clock-is t few calls N (omega arith)
+      ap (λ (s : State). s .progress .clock) (sym (linked-last (final (freshState t) calls) (begins t calls))) ∙ clock-is t calls (N t calls) (omega arith)
 
-  pub tick-is : (u : ℕ) → u < N → tickAt t calls u ≡ ranAt (at u)
+  pub tick-is : (u : ℕ) → u < N t calls → tickAt t calls u ≡ ranAt (at u)
   tick-is u h =
-      ap (λ (xs : List RanTick). getD xs u noTick) ticks-are ∙ map-at ranAt (begins t few calls) u noTick (ends t few calls) h
+      ap (λ (xs : List RanTick). getD xs u noTick) ticks-are ∙ map-at ranAt (begins t calls) u noTick (final (freshState t) calls) h
 
-  pub entry-is : (u : ℕ) → u < N → tickAt t calls u .entry ≡ entryOf (tick p (modelOf (at u)))
-  entry-is u h = ap (λ (x : RanTick). x .entry) (tick-is u h) ∙ ap entryOf (ticked-is t few calls u (omega arith))
+  pub entry-is : (u : ℕ) → u < N t calls → tickAt t calls u .entry ≡ entryOf (tick p (modelOf (at u)))
+  entry-is u h = ap (λ (x : RanTick). x .entry) (tick-is u h) ∙ ap entryOf (ticked-is t calls u (omega arith))
 
   -- a count over the reports is a count over the run
-  pub counted : (f : Entry → Bool) (r n : ℕ) → r + n ≤ N →
+  pub counted : (f : Entry → Bool) (r n : ℕ) → r + n ≤ N t calls →
       howMany (λ x. f (x .entry)) (stretch r n (ticks t calls)) ≡ tally (λ u. f (entryOf (tick p (modelOf (at u))))) r n
   counted f r n h =
       tally-stretch (λ x. f (x .entry)) noTick r n (ticks t calls) (omega (arith, ticks-long))
       ∙ tally-same (λ u. f (tickAt t calls u .entry)) (λ u. f (entryOf (tick p (modelOf (at u))))) r n (λ u a b. ap f (entry-is u (omega arith)))
 
   -- the queue, as the run sees it
-  pub backlog : (a : ℕ) → a + t .server .period ≤ N → NeverEmpty t calls a → (u : ℕ) → a ≤ u → u < a + t .server .period → Backlog p (modelOf (at u))
-  backlog a h w u l q = (began u l q, ended u l q)
+  pub backlog : t .n ≤ maxTasks → (a : ℕ) → a + t .server .period ≤ N t calls → NeverEmpty t calls a → (u : ℕ) → a ≤ u → u < a + t .server .period → Backlog p (modelOf (at u))
+  backlog few a h w u l q = (began u l q, ended u l q)
     where
       ended : (u : ℕ) → a ≤ u → u < a + t .server .period → waits (tick p (modelOf (at u)) .next .queue) ≡ true
       ended u l q =
-          ap (λ (x : Tick). waits (x .next .queue)) (sym (ticked-is t few calls u (omega arith)))
+          ap (λ (x : Tick). waits (x .next .queue)) (sym (ticked-is t calls u (omega arith)))
           ∙ ap waits (sym (waiting-with (at u .queue) (ticked (at u) .next .queue)))
           ∙ waiting (waitingOf (stateAfter (at u) .queue)) (omega (arith, w .1 u l (omega arith), ap (λ (x : RanTick). x .after) (tick-is u (omega arith))))
 
@@ -91,4 +88,4 @@ module _ (t : Table) (few : t .n ≤ maxTasks) (calls : List Call) where
                     (tick-is u (omega arith)),
               ))
           go zero l q (no b) = absurd (omega arith)
-          go (suc v) l q (no b) = played t few calls .stays v (omega arith) (ended v (omega arith) (omega arith))
+          go (suc v) l q (no b) = played t calls few .stays v (omega arith) (ended v (omega arith) (omega arith))

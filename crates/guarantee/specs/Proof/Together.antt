@@ -20,7 +20,7 @@ use Rattle.guarantee.specs.Proof.Tie.{items}
 use Rattle.guarantee.specs.Proof.Executed.{executed, no-drop}
 use Rattle.guarantee.specs.Proof.Period.{exactly}
 use Rattle.guarantee.specs.Proof.Admitted.{Good}
-use Rattle.guarantee.specs.Proof.Played.{begins, modelAt, played}
+use Rattle.guarantee.specs.Proof.Played.{N, modelBefore, played}
 use Rattle.guarantee.specs.Proof.Reports.{ticks-long, clock-after, entry-is, counted, backlog}
 
 module _ (t : Table) (g : Good t) (calls : List Call) where
@@ -31,26 +31,23 @@ module _ (t : Table) (g : Good t) (calls : List Call) where
   p = taskSetOf t
 
   abbrev m : ℕ → Model
-  m u = modelAt t few calls u
-
-  abbrev N : ℕ
-  N = length (begins t few calls)
+  m u = modelBefore t calls u
 
   -- the clock after the list is the number of ticks that ran
-  clock : clockAfter t calls ≡ N
-  clock = clock-after t few calls
+  clock : clockAfter t calls ≡ N t calls
+  clock = clock-after t calls
 
   pub kept : Guarantee t calls
   kept = record {
-    numbered = ticks-long t few calls ∙ sym clock;
+    numbered = ticks-long t calls ∙ sym clock;
     nodrop = λ u h.
-        ap (λ (x : Entry). x .drops) (entry-is t few calls u (omega (arith, clock)))
-        ∙ no-drop p m N (played t few calls) (g .sound) (g .mix) (λ i b. (boundAt t i, g .tasks i b)) u (omega (arith, clock));
+        ap (λ (x : Entry). x .drops) (entry-is t calls u (omega (arith, clock)))
+        ∙ no-drop p m (N t calls) (played t calls few) (g .sound) (g .mix) (λ i b. (boundAt t i, g .tasks i b)) u (omega (arith, clock));
     whole = λ i r b e h.
         omega (
           arith,
-          counted t few calls (byTask i) r (boundAt t i) (omega (arith, clock)),
-          executed p m N (played t few calls) (g .sound) (g .mix) i b (boundAt t i) (g .tasks i b) r e (omega (arith, clock)),
+          counted t calls (byTask i) r (boundAt t i) (omega (arith, clock)),
+          executed p m (N t calls) (played t calls few) (g .sound) (g .mix) i b (boundAt t i) (g .tasks i b) r e (omega (arith, clock)),
         );
     budget = λ a k e h w.
         let o : OwnBound p (ownBound p) = g .own k in
@@ -58,8 +55,8 @@ module _ (t : Table) (g : Good t) (calls : List Call) where
         omega (arith, o .meets, seat-demand (t .server .place) (p .tasks) (server (kindAt p) (t .server)) (ownBound p)) in
         omega (
           arith,
-          counted t few calls byRequest a (t .server .period) (omega (arith, clock)),
-          exactly p m N (played t few calls) k (g .sound) (g .plain k) (ownBound p) (o .some) (o .soon) d a e (omega (arith, clock))
-              (backlog t few calls a (omega (arith, clock)) w),
+          counted t calls byRequest a (t .server .period) (omega (arith, clock)),
+          exactly p m (N t calls) (played t calls few) k (g .sound) (g .plain k) (ownBound p) (o .some) (o .soon) d a e (omega (arith, clock))
+              (backlog t calls few a (omega (arith, clock)) w),
         );
   }

@@ -2,19 +2,16 @@
 //! LIBRARY is `linked` (built with that feature), `second` (the second implementation against itself), or a shared object's path.
 //! A call that tells them apart is made small and written to target/differential/.
 
-use std::collections::BTreeMap;
-use std::fs;
 use std::process::exit;
-use std::time::{Instant, SystemTime, UNIX_EPOCH};
+use std::time::Instant;
 
 use differential::abi::Calls;
 use differential::call::{compare, random_call, shrink, table_call, Call};
 use differential::open::find;
+use differential::program::{count_and_seed, words, write, Seen};
 use differential::random::Random;
 use differential::state;
 use second::State;
-
-const FOLDER: &str = "target/differential";
 
 struct Fault {
     state: State,
@@ -24,12 +21,11 @@ struct Fault {
 fn main() {
     let mut arguments = std::env::args().skip(1);
     let library = arguments.next().expect("linked, second, or the path of a shared object");
-    let count: u64 = arguments.next().map_or(200_000, |text| text.parse().expect("a count"));
-    let seed: u64 = arguments.next().map_or_else(clock_seed, |text| text.parse().expect("a seed"));
+    let (count, seed) = count_and_seed(arguments, 200_000);
     let calls = find(&library).unwrap_or_else(|| panic!("no library {library}"));
     println!("calls: {count} calls, seed {seed}");
     let start = Instant::now();
-    let mut seen = BTreeMap::new();
+    let mut seen = Seen::new();
     let (mut made, mut list) = (0, 0);
     while made < count {
         if let Err(fault) = one_list(&calls, &mut Random::new(seed, list), &mut made, &mut seen) {
@@ -39,15 +35,11 @@ fn main() {
         list += 1;
     }
     println!("calls: {made} calls in {list} lists, all alike in {:.1} s", start.elapsed().as_secs_f64());
-    println!("calls: {}", seen.iter().map(|(what, times)| format!("{what} {times}")).collect::<Vec<_>>().join(", "));
-}
-
-fn clock_seed() -> u64 {
-    SystemTime::now().duration_since(UNIX_EPOCH).map_or(1, |since| since.as_secs())
+    println!("calls: {}", words(&seen));
 }
 
 /// One list of calls from a fresh, a fit, an edge or an unfit state; each call starts where the last one ended.
-fn one_list(calls: &Calls, random: &mut Random, made: &mut u64, seen: &mut BTreeMap<String, u64>) -> Result<(), Fault> {
+fn one_list(calls: &Calls, random: &mut Random, made: &mut u64, seen: &mut Seen) -> Result<(), Fault> {
     let (mut state, length) = match random.below(10) {
         0..=3 => (State::set_up(state::table(random)).expect("a table within its limits"), 40),
         4..=6 => (state::fit(random), 6),
@@ -87,15 +79,13 @@ fn ending(state: &State, call: &Call) -> String {
 fn report(calls: &Calls, seed: u64, list: u64, fault: &Fault) {
     let small = shrink(calls, &fault.state, &fault.call);
     let difference = compare(calls, &small, &fault.call).err().unwrap_or_default();
-    let path = format!("{FOLDER}/call-{seed}-{list}.txt");
-    fs::create_dir_all(FOLDER).expect("target is writable");
     let text = format!(
         "{:?}\n{difference}\n\nmade small:\n{}\nmade small, every slot:\n{small:?}\n\nas met:\n{:?}\n",
         fault.call,
         describe(&small),
         fault.state
     );
-    fs::write(&path, text).expect("target is writable");
+    let path = write(&format!("call-{seed}-{list}.txt"), text.as_bytes());
     println!("calls: list {list} of seed {seed} differs; written to {path}");
     println!("{:?}: {difference}", fault.call);
 }

@@ -1,28 +1,21 @@
 //! `plans PROGRAM [COUNT] [SEED]`: the program's output for random plans, against the second implementation, byte for byte.
 //! A plan that tells them apart is made small and written to target/differential/.
 
-use std::collections::BTreeMap;
-use std::fs;
 use std::io::Write;
 use std::process::{exit, Command, Stdio};
 use std::sync::atomic::{AtomicBool, Ordering};
 use std::thread;
-use std::time::{Instant, SystemTime, UNIX_EPOCH};
+use std::time::Instant;
 
 use differential::plan::plan;
+use differential::program::{count_and_seed, words, write, Seen};
 use differential::random::Random;
 use differential::shrink::shrink;
-
-const FOLDER: &str = "target/differential";
-
-/// How many plans ended or printed in each way.
-type Seen = BTreeMap<String, u64>;
 
 fn main() {
     let mut arguments = std::env::args().skip(1);
     let program = arguments.next().expect("the path of the program");
-    let count: u64 = arguments.next().map_or(20_000, |text| text.parse().expect("a count"));
-    let seed: u64 = arguments.next().map_or_else(clock_seed, |text| text.parse().expect("a seed"));
+    let (count, seed) = count_and_seed(arguments, 20_000);
     println!("plans: {count} plans, seed {seed}");
     let start = Instant::now();
     match compare(&program, count, seed) {
@@ -32,13 +25,9 @@ fn main() {
         }
         Ok(seen) => {
             println!("plans: all alike in {:.1} s", start.elapsed().as_secs_f64());
-            println!("plans: {}", seen.iter().map(|(what, times)| format!("{what} {times}")).collect::<Vec<_>>().join(", "));
+            println!("plans: {}", words(&seen));
         }
     }
-}
-
-fn clock_seed() -> u64 {
-    SystemTime::now().duration_since(UNIX_EPOCH).map_or(1, |since| since.as_secs())
 }
 
 /// The first plan that differs, if any, or what was seen. The plans are shared out between the processor's cores.
@@ -107,14 +96,12 @@ fn run(program: &str, plan: &[u8]) -> Option<Vec<u8>> {
 fn report(program: &str, seed: u64, index: u64) {
     let differs = |plan: &[u8]| run(program, plan) != Some(second::print::schedule(plan));
     let small = shrink(&plan(&mut Random::new(seed, index)), differs);
-    let path = format!("{FOLDER}/plan-{seed}-{index}");
-    fs::create_dir_all(FOLDER).expect("target is writable");
-    let write = |end: &str, bytes: &[u8]| fs::write(format!("{path}.{end}"), bytes).expect("target is writable");
+    let name = format!("plan-{seed}-{index}");
     let (expected, printed) = (second::print::schedule(&small), run(program, &small));
-    write("plan", &small);
-    write("expected", &expected);
-    write("printed", printed.as_deref().unwrap_or(b"the program failed\n"));
-    println!("plans: plan {index} of seed {seed} differs; made small in {path}.plan, with .expected and .printed");
+    let path = write(&format!("{name}.plan"), &small);
+    write(&format!("{name}.expected"), &expected);
+    write(&format!("{name}.printed"), printed.as_deref().unwrap_or(b"the program failed\n"));
+    println!("plans: plan {index} of seed {seed} differs; made small in {path}, with .expected and .printed");
     show(&small, &expected, printed.as_deref().unwrap_or(b""));
 }
 

@@ -1,0 +1,32 @@
+//! What the programs share: count and seed, the folder for what differs, what was seen.
+
+use std::collections::BTreeMap;
+use std::fs;
+use std::time::{SystemTime, UNIX_EPOCH};
+
+const FOLDER: &str = "target/differential";
+
+/// How often each thing was seen.
+pub type Seen = BTreeMap<String, u64>;
+
+pub fn words(seen: &Seen) -> String {
+    seen.iter().map(|(what, times)| format!("{what} {times}")).collect::<Vec<_>>().join(", ")
+}
+
+/// [COUNT] [SEED]: `count` and the clock's second if not given.
+pub fn count_and_seed(mut arguments: impl Iterator<Item = String>, count: u64) -> (u64, u64) {
+    let count = arguments.next().map_or(count, |text| text.parse().expect("a count"));
+    (count, arguments.next().map_or_else(clock_seed, |text| text.parse().expect("a seed")))
+}
+
+fn clock_seed() -> u64 {
+    SystemTime::now().duration_since(UNIX_EPOCH).map_or(1, |since| since.as_secs())
+}
+
+/// Keeps what differs; the path that it was written to.
+pub fn write(name: &str, bytes: &[u8]) -> String {
+    let path = format!("{FOLDER}/{name}");
+    fs::create_dir_all(FOLDER).expect("target is writable");
+    fs::write(&path, bytes).expect("target is writable");
+    path
+}

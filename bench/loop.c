@@ -1,6 +1,7 @@
 /* The inner loop of a run as one would write it in C: the state by pointer, changed in place, no check of fitness. Only for bench/run, which
  * compares its entries and its last state with the library's. */
 #include <stdbool.h>
+#include <string.h>
 
 #include "pilqandur.h"
 
@@ -26,8 +27,42 @@ static uint32_t open_tasks(struct pilqandur_state *s, uint32_t t)
     return drops;
 }
 
+/* Kind 4, step 3: whether the oldest held tick comes back; then it is held no more. */
+static bool comes_back(const struct pilqandur_server *v, struct pilqandur_returns *r, uint32_t t)
+{
+    struct pilqandur_stretch *u = r->stretches;
+    if (r->n == 0 || u->start + v->period != t)
+        return false;
+    if (u->length > 1) {
+        u->start++;
+        u->length--;
+    } else {
+        r->n--;
+        memmove(u, u + 1, r->n * sizeof *u);
+    }
+    return true;
+}
+
+/* Kind 4: whether tick t follows the last held one. */
+static bool goes_on(const struct pilqandur_returns *r, uint32_t t)
+{
+    if (r->n == 0)
+        return false;
+    const struct pilqandur_stretch *last = &r->stretches[r->n - 1];
+    return last->start + last->length == t;
+}
+
+/* Kind 4, step 5: a served tick is held. */
+static void hold(struct pilqandur_returns *r, uint32_t t)
+{
+    if (goes_on(r, t))
+        r->stretches[r->n - 1].length++;
+    else
+        r->stretches[r->n++] = (struct pilqandur_stretch){t, 1};
+}
+
 /* Step 3. */
-static void replenish(const struct pilqandur_server *v, struct pilqandur_server_state *b, uint32_t t, bool busy)
+static void replenish(const struct pilqandur_server *v, struct pilqandur_server_state *b, struct pilqandur_returns *r, uint32_t t, bool busy)
 {
     struct pilqandur_sporadic *x = &b->sporadic;
     if (v->kind == PILQANDUR_POLLING || v->kind == PILQANDUR_DEFERRABLE) {
@@ -41,6 +76,8 @@ static void replenish(const struct pilqandur_server *v, struct pilqandur_server_
             x->served = x->late = false;
             x->nr = 0;
         }
+    } else if (v->kind == PILQANDUR_RETURNING) {
+        b->budget += comes_back(v, r, t);
     }
 }
 
@@ -56,8 +93,8 @@ static void first_service(const struct pilqandur_server *v, struct pilqandur_spo
 }
 
 /* Step 5, the server. */
-static void consume(const struct pilqandur_server *v, struct pilqandur_server_state *b, uint32_t t, bool above, bool busy, bool serves,
-                    bool waited, bool emptied)
+static void consume(const struct pilqandur_server *v, struct pilqandur_server_state *b, struct pilqandur_returns *r, uint32_t t, bool above,
+                    bool busy, bool serves, bool waited, bool emptied)
 {
     struct pilqandur_sporadic *x = &b->sporadic;
     if (v->kind == PILQANDUR_POLLING) {
@@ -78,6 +115,9 @@ static void consume(const struct pilqandur_server *v, struct pilqandur_server_st
         }
         x->above = above;
         x->busy = busy;
+    } else if (v->kind == PILQANDUR_RETURNING && serves) {
+        b->budget--;
+        hold(r, t);
     }
 }
 
@@ -97,14 +137,16 @@ static struct pilqandur_entry tick(struct pilqandur_state *s)
 {
     const struct pilqandur_server *v = &s->table.server;
     struct pilqandur_server_state *b = &s->progress.server;
+    struct pilqandur_returns *r = &s->returns;
     uint32_t t = s->progress.clock;
     struct pilqandur_entry e = {0, 0, open_tasks(s, t)};
     uint32_t first = 0;
     while (first < s->table.n && s->progress.left[first] == 0)
         first++;
     bool above = first < v->place, busy = first < s->table.n, waited = s->queue.n > 0, serves = false;
-    replenish(v, b, t, busy);
-    if (!above && waited && b->budget > 0) {
+    replenish(v, b, r, t, busy);
+    bool room = v->kind != PILQANDUR_RETURNING || r->n < PILQANDUR_MAX_STRETCHES || goes_on(r, t);
+    if (!above && waited && b->budget > 0 && room) {
         e = (struct pilqandur_entry){2, s->queue.requests[0].id, e.drops};
         serves = true;
         serve(&s->queue);
@@ -115,7 +157,7 @@ static struct pilqandur_entry tick(struct pilqandur_state *s)
         e = (struct pilqandur_entry){2, s->queue.requests[0].id, e.drops};
         serve(&s->queue);
     }
-    consume(v, b, t, above, busy, serves, waited, s->queue.n == 0);
+    consume(v, b, r, t, above, busy, serves, waited, s->queue.n == 0);
     s->progress.clock = t + 1;
     return e;
 }

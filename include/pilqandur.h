@@ -20,9 +20,12 @@
  * A state is numbers alone, without pointers: it can be copied, stored and taken up again. Every pattern of bits is taken. A
  * state is fit if its table passes 1, 2 and 3, left[i] <= exec of each task in use, at most 64 wait, each with work 1 to 60,000
  * and arrival <= clock, budget <= the server's, clock <= 4,000,000,000, tr and begin <= clock, nr <= 4,000,060,000, and each
- * flag is 0 or 1. Any other is refused with 11 and handed back as it came. But 11 is no checksum: most states in which a bit
- * was changed are still states, and are run as such: another id or work, another clock, even another table, which need not be
- * the admitted one. Keep a checksum beside a stored state (examples/c/saved.c does).
+ * flag is 0 or 1. Under kind 4, besides: the lengths of the stretches held and budget add up to the server's budget, and the
+ * stretches are at most 32, none empty, oldest first, a tick or more between each and the next, all within the server's last
+ * period of ticks before the clock (clock - period to clock - 1). The other kinds do not look at the stretches, and leave them.
+ * Any other state is refused with 11 and handed back as it came. But 11 is no checksum: most states in which a bit was changed
+ * are still states, and are run as such: another id or work, another clock, even another table, which need not be the admitted
+ * one. Keep a checksum beside a stored state (examples/c/saved.c does).
  *
  * A run does not report what finished: make ticks one by one where the responses are wanted.
  *
@@ -41,11 +44,12 @@ extern "C" {
 #endif
 
 /* The number of this header. It rises with every change of a struct, a number or a meaning. */
-#define PILQANDUR_VERSION 1u
+#define PILQANDUR_VERSION 2u
 
 /* The limits. Times are in ticks of 10 ms. */
 #define PILQANDUR_MAX_TASKS 16
 #define PILQANDUR_MAX_WAITING 64
+#define PILQANDUR_MAX_STRETCHES 32
 #define PILQANDUR_MAX_TIME 60000u        /* of a phase, a period, an execution, a deadline, a server's period and budget */
 #define PILQANDUR_MAX_WORK 60000u        /* of a request */
 #define PILQANDUR_LAST_CLOCK 4000000000u /* at it no tick runs */
@@ -56,15 +60,16 @@ extern "C" {
  * by value, twice with some compilers: README.md has figures with that. */
 #define PILQANDUR_STACK_SET_UP 656
 #define PILQANDUR_STACK_ADMIT 1360
-#define PILQANDUR_STACK_REQUEST 5376
-#define PILQANDUR_STACK_TICK 5616
-#define PILQANDUR_STACK_RUN 5232
+#define PILQANDUR_STACK_REQUEST 5648
+#define PILQANDUR_STACK_TICK 6736
+#define PILQANDUR_STACK_RUN 5616
 
 /* Kinds of a server. */
 #define PILQANDUR_BACKGROUND 0u
 #define PILQANDUR_POLLING 1u
 #define PILQANDUR_DEFERRABLE 2u
 #define PILQANDUR_SPORADIC 3u
+#define PILQANDUR_RETURNING 4u /* each served tick comes back one period later */
 
 /* Kinds of an entry: who has the tick. */
 #define PILQANDUR_IDLE 0u
@@ -91,7 +96,7 @@ struct pilqandur_task {
     uint32_t phase, period, exec, deadline;
 };
 
-/* The server. place is how many tasks stand above it. Kinds 1 to 3: place <= n, 1 <= budget <= period <= 60,000.
+/* The server. place is how many tasks stand above it. Kinds 1 to 4: place <= n, 1 <= budget <= period <= 60,000.
  * Kind 0: place = n, period = budget = 0. */
 struct pilqandur_server {
     uint32_t kind, place, period, budget;
@@ -138,11 +143,24 @@ struct pilqandur_queue {
     uint32_t n;
 };
 
+/* Ticks on end that a server of kind 4 served: `length` of them from `start` on. */
+struct pilqandur_stretch {
+    uint32_t start, length;
+};
+
+/* What only a server of kind 4 keeps: the first n hold the served ticks that have not come back, oldest first. Tick u comes
+ * back at tick u + period. With 32 held no tick is served that would open another; one that makes the last longer is. */
+struct pilqandur_returns {
+    struct pilqandur_stretch stretches[PILQANDUR_MAX_STRETCHES];
+    uint32_t n;
+};
+
 /* Slots that are not in use keep what they held. */
 struct pilqandur_state {
     struct pilqandur_table table;
     struct pilqandur_progress progress;
     struct pilqandur_queue queue;
+    struct pilqandur_returns returns;
 };
 
 /* A tick of a run. id: the task's index, the request's id, 0 for idle. drops: jobs cut off in this tick because their
@@ -158,7 +176,7 @@ struct pilqandur_set_up_result {
 };
 
 /* The worst-case response-time bound of each task and of the server, 0 where there is none; slots past n are 0, and of a
- * refused table all is. admitted is 1 or 0: whether every task, and a server of kinds 1 to 3, has a bound. */
+ * refused table all is. admitted is 1 or 0: whether every task, and a server of kinds 1 to 4, has a bound. */
 struct pilqandur_admission_result {
     uint32_t number, index;
     uint32_t bounds[PILQANDUR_MAX_TASKS];

@@ -13,7 +13,7 @@ MOST = 60_000  # of a phase, period, execution, deadline, budget or work
 MOST_TICKS = 1_000_000
 MOST_DIGITS = 10
 MOST_NUMBER = 4_294_967_295
-KINDS = ["background", "polling", "deferrable", "sporadic"]
+KINDS = ["background", "polling", "deferrable", "sporadic", "returning"]
 
 SHOWN = 40  # characters of a plan's text that the words show
 

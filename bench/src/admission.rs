@@ -123,7 +123,7 @@ fn random_table(random: &mut Random) -> Table {
             row(period, random.from(1, (2 * period / n).clamp(1, period)))
         })
         .collect();
-    let kind = random.from(0, 3);
+    let kind = random.from(0, 4);
     let period = random.from(1, most);
     match kind {
         0 => with(rows, background(n as usize)),

@@ -8,7 +8,7 @@ use crate::{least, timed};
 
 const TICKS: u32 = 5_000;
 const GOES: u32 = 200;
-const KINDS: [&str; 4] = ["background", "polling", "deferrable", "sporadic"];
+const KINDS: [&str; 5] = ["background", "polling", "deferrable", "sporadic", "returning"];
 
 extern "C" {
     fn loop_run(state: *mut abi::State, k: u32, entries: *mut abi::Entry);

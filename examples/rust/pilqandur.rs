@@ -3,11 +3,12 @@
 #![allow(dead_code)] // a caller need not use all of it
 
 /// The number of the header that these declarations follow: `version()` has to be it.
-pub const VERSION: u32 = 1;
+pub const VERSION: u32 = 2;
 
 /// The limits. Times are in ticks of 10 ms.
 pub const MAX_TASKS: u32 = 16;
 pub const MAX_WAITING: u32 = 64;
+pub const MAX_STRETCHES: u32 = 32;
 pub const MAX_TIME: u32 = 60000;
 pub const MAX_WORK: u32 = 60000;
 pub const LAST_CLOCK: u32 = 4000000000;
@@ -17,6 +18,7 @@ pub const BACKGROUND: u32 = 0;
 pub const POLLING: u32 = 1;
 pub const DEFERRABLE: u32 = 2;
 pub const SPORADIC: u32 = 3;
+pub const RETURNING: u32 = 4;
 
 /// Kinds of an entry: who has the tick.
 pub const IDLE: u32 = 0;
@@ -106,12 +108,28 @@ pub struct Queue {
     pub n: u32,
 }
 
+/// Ticks on end that a server of kind 4 served.
+#[repr(C)]
+#[derive(Clone, Copy, Debug, Default, PartialEq, Eq)]
+pub struct Stretch {
+    pub start: u32,
+    pub length: u32,
+}
+
+#[repr(C)]
+#[derive(Clone, Copy, Debug, Default, PartialEq, Eq)]
+pub struct Returns {
+    pub stretches: [Stretch; 32],
+    pub n: u32,
+}
+
 #[repr(C)]
 #[derive(Clone, Copy, Debug, PartialEq, Eq)]
 pub struct State {
     pub table: Table,
     pub progress: Progress,
     pub queue: Queue,
+    pub returns: Returns,
 }
 
 #[repr(C)]

@@ -1,5 +1,5 @@
 #!/usr/bin/env python3
-"""The second computation of the program `calls`: the same cases, worked out from the text of document 01.
+"""The second computation of the program `calls`: the same cases, worked out from the text of document 01 and of 02's request 3/13.
 
 Nothing here is taken from the product's definitions or code but the order of a state's fields, in which the digest reads them,
 the letters on a line, and three points that document 01 leaves free: a refused set-up hands back the table's fresh state (of an
@@ -25,12 +25,14 @@ def base(kind):
     left[:3] = [2, 4, 60001]
     requests = [[6, 5, 50] for _ in range(64)]
     requests[:3] = [[7, 2, 90], [8, 60000, 100], [7, 1, 95]]
-    return dict(rows=rows, n=2, server=server, left=left, b=0 if kind == 0 else 3, tr=90, begin=95, nr=0,
+    stretches = [[99, 9] for _ in range(32)]
+    stretches[:2] = [[92, 2], [96, 1]]
+    return dict(rows=rows, n=2, server=server, left=left, b={0: 0, 4: 1}.get(kind, 3), held=2, stretches=stretches, tr=90, begin=95, nr=0,
                 served=0, late=0, above=0, busy=1, clock=100, waiting=3, requests=requests)
 
 
 LETTERS = dict(phase="f", period="p", exec="e", deadline="D", rows="n", kind="k", place="s", P="P", B="B", left="l", b="b", tr="t",
-               begin="g", nr="r", clock="c", id="i", work="w", arrival="a", waiting="q")
+               begin="g", nr="r", clock="c", id="i", work="w", arrival="a", waiting="q", start="S", length="L", held="h")
 
 
 def label(field, value):
@@ -43,12 +45,15 @@ def put(s, field, value):
     columns = dict(phase=0, period=1, exec=2, deadline=3)
     places = dict(kind=0, place=1, P=2, B=3)
     parts = dict(id=0, work=1, arrival=2)
+    ends = dict(start=0, length=1)
     if name in columns:
         s["rows"][int(at[0])][columns[name]] = value
     elif name in places:
         s["server"][places[name]] = value
     elif name in parts:
         s["requests"][int(at[0])][parts[name]] = value
+    elif name in ends:
+        s["stretches"][int(at[0])][ends[name]] = value
     elif name == "left":
         s["left"][int(at[0])] = value
     else:
@@ -66,6 +71,7 @@ def of(s):
     flat = [x for row in s["rows"] for x in row] + [s["n"]] + s["server"] + s["left"]
     flat += [s[k] for k in ("b", "tr", "begin", "nr", "served", "late", "above", "busy", "clock")]
     flat += [s["waiting"]] + [x for r in s["requests"] for x in r]
+    flat += [s["held"]] + [x for u in s["stretches"] for x in u]
     return digest(flat)
 
 
@@ -79,7 +85,7 @@ def table_refusal(s):
         if not (1 <= e <= d <= p <= LIMIT and f <= LIMIT):
             return 2, i
     kind, place, period, budget = s["server"]
-    if kind in (1, 2, 3):
+    if kind in (1, 2, 3, 4):
         good = place <= n and 1 <= budget <= period <= LIMIT
     elif kind == 0:
         good = place == n and period == 0 and budget == 0
@@ -88,8 +94,25 @@ def table_refusal(s):
     return (0, None) if good else (3, None)
 
 
+def returns_unfit(s):
+    """3/13, of kind 4: the held ticks as a list, looked at one by one."""
+    if s["held"] > 32:
+        return True
+    inside = range(s["clock"] - s["server"][2], s["clock"])
+    last, count = None, 0
+    for start, length in s["stretches"][:s["held"]]:
+        if length == 0 or start not in inside or start + length - 1 not in inside:
+            return True
+        if last is not None and start <= last + 1:
+            return True
+        last, count = start + length - 1, count + length
+    return count + s["b"] != s["server"][3]
+
+
 def unfit(s):
     if table_refusal(s)[0]:
+        return True
+    if s["server"][0] == 4 and returns_unfit(s):
         return True
     if any(s["left"][i] > s["rows"][i][2] for i in range(s["n"])):
         return True
@@ -109,10 +132,11 @@ def unfit(s):
 def fresh(s):
     f = copy.deepcopy(s)
     f["left"] = [0] * 16
-    f["b"] = s["server"][3] if s["server"][0] in (1, 2, 3) else 0
-    for k in ("tr", "begin", "nr", "served", "late", "above", "busy", "clock", "waiting"):
+    f["b"] = s["server"][3] if s["server"][0] in (1, 2, 3, 4) else 0
+    for k in ("tr", "begin", "nr", "served", "late", "above", "busy", "clock", "waiting", "held"):
         f[k] = 0
     f["requests"] = [[0, 0, 0] for _ in range(64)]
+    f["stretches"] = [[0, 0] for _ in range(32)]
     return f
 
 
@@ -152,6 +176,37 @@ def admission(s):
     return int(admitted), own, bounds + [0] * (16 - len(bounds))
 
 
+# ---- kind 4's held ticks: the first `held` slots are in use; one that falls free keeps what it held
+def came_back(s, tick):
+    """1, with the tick gone, if the oldest held tick is this one; else 0."""
+    first = s["stretches"][0]
+    if s["held"] == 0 or first[0] != tick:
+        return 0
+    if first[1] > 1:
+        s["stretches"][0] = [tick + 1, first[1] - 1]
+    else:
+        count = s["held"]
+        s["stretches"][:count - 1] = copy.deepcopy(s["stretches"][1:count])
+        s["held"] = count - 1
+    return 1
+
+
+def goes_on(s, t):
+    return s["held"] > 0 and sum(s["stretches"][s["held"] - 1]) == t
+
+
+def may_hold(s, t):
+    return s["held"] < 32 or goes_on(s, t)
+
+
+def hold(s, t):
+    if goes_on(s, t):
+        s["stretches"][s["held"] - 1][1] += 1
+    else:
+        s["stretches"][s["held"]] = [t, 1]
+        s["held"] += 1
+
+
 # ---- one tick, steps 1 to 6
 def tick(s):
     """None and a refusal's number, or the answer, with the state after it."""
@@ -183,11 +238,13 @@ def tick(s):
         if (s["served"] and s["nr"] == t and not s["late"]) or (s["late"] and s["b"] == 0) or (busy and t > 0 and not s["busy"]):
             s["b"], s["tr"] = budget, t
             s["served"] = s["nr"] = s["late"] = 0
+    elif kind == 4:
+        s["b"] += came_back(s, t - period)
     waiting = s["waiting"] > 0                            # step 4
     row = next((i for i in range(n) if left[i]), None)
     if row is not None and row < place:
         who = "row"
-    elif waiting and s["b"] > 0:
+    elif waiting and s["b"] > 0 and (kind != 4 or may_hold(s, t)):
         who = "budget"
     elif row is not None:
         who = "row"
@@ -213,8 +270,10 @@ def tick(s):
             # the slot that falls free keeps the request that it held; a lone head stays there as it came
             if count == 1:
                 head[1] += 1
-    if kind in (1, 2) and who == "budget":
+    if kind in (1, 2, 4) and who == "budget":
         s["b"] -= 1
+    if kind == 4 and who == "budget":
+        hold(s, t)
     if kind == 1:
         if not above and not waiting:
             s["b"] = 0
@@ -311,7 +370,7 @@ TABLE = [
     ("P", [0, 3, 4, 60000, 60001]), ("B", [0, 1, 2, 3, 10, 11]),
 ]
 TABLE_ORDERS = [
-    (("rows", 0), ("exec 0", 0)), (("rows", 17), ("kind", 4)), (("exec 1", 0), ("kind", 4)),
+    (("rows", 0), ("exec 0", 0)), (("rows", 17), ("kind", 5)), (("exec 1", 0), ("kind", 5)),
     (("exec 1", 0), ("phase 0", 60001)), (("rows", 3), ("exec 2", 0)), (("rows", 16), ("exec 15", 9)),
 ]
 STATE = [
@@ -321,6 +380,12 @@ STATE = [
     ("waiting", [0, 1, 63, 64, 65, TOP]), ("work 0", [0, 1, 60000, 60001]), ("work 2", [0, 60000, 60001]),
     ("work 3", [0, 60001]),
     ("arrival 0", [0, 100, 101]), ("arrival 2", [100, 101]), ("arrival 3", [101]), ("id 0", [0, TOP]),
+    ("held", [0, 1, 3, 32, 33, TOP]), ("start 0", [89, 90, 93, 94, 95, 97]), ("start 1", [94, 95, 99, 100, TOP]),
+    ("length 0", [0, 1, 3]), ("length 1", [0, 2, TOP]), ("length 2", [0]),
+]
+RETURNS_ORDERS = [
+    (("b", 0), ("length 0", 3)), (("b", 2), ("length 1", 0)), (("b", 2), ("held", 1)), (("b", 4), ("held", 0)),
+    (("clock", 97), ("P", 5)), (("clock", 97), ("P", 4)),
 ]
 STATE_ORDERS = [
     (("clock", 4000000000), ("left 0", 4)), (("clock", 4000000000), ("waiting", 64)),
@@ -331,7 +396,7 @@ REQUESTS = [(0, [0, 1, 60000, 60001, TOP]), (63, [0, 1, 60000, 60001]), (64, [0,
 
 
 def main():
-    for kind in range(4):
+    for kind in range(5):
         for field, values in TABLE:
             for value in values:
                 case(kind, [(field, value)], True)
@@ -340,7 +405,7 @@ def main():
         for field, values in STATE:
             for value in values:
                 case(kind, [(field, value)], False)
-        for pair in STATE_ORDERS:
+        for pair in RETURNS_ORDERS + STATE_ORDERS:
             case(kind, pair, True)
         for waiting, works in REQUESTS:
             for work in works:
@@ -362,7 +427,7 @@ RUNS = [
 
 
 def runs():
-    for kind in range(4):
+    for kind in range(5):
         for field, value, k, lent in RUNS:
             s = base(kind)
             put(s, field, value)

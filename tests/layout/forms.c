@@ -119,15 +119,19 @@ static void table_numbers(void)
     t.server.period++;
     expect(set_up_number(t) == PILQANDUR_BAD_SERVER, "MAX_TIME, BAD_SERVER");
     t = plain;
-    t.server.kind = PILQANDUR_SPORADIC + 1;
-    expect(set_up_number(t) == PILQANDUR_BAD_SERVER, "SPORADIC is the last kind");
+    t.server.kind = PILQANDUR_RETURNING;
+    expect(set_up_number(t) == PILQANDUR_DONE, "RETURNING");
+    t.server.kind = PILQANDUR_RETURNING + 1;
+    expect(set_up_number(t) == PILQANDUR_BAD_SERVER, "RETURNING is the last kind");
 }
 
-/* document 01's marked cases: the responses of one request under each kind of server */
+/* document 01's marked cases: the responses of one request under each kind of server. Kind 4 serves it in the same ticks as kind 3, and
+ * alone holds what it served. */
 static void kind_responses(void)
 {
-    const uint32_t kinds[4] = {PILQANDUR_BACKGROUND, PILQANDUR_POLLING, PILQANDUR_DEFERRABLE, PILQANDUR_SPORADIC}, responses[4] = {6, 9, 4, 7};
-    for (int i = 0; i < 4; i++) {
+    const uint32_t kinds[5] = {PILQANDUR_BACKGROUND, PILQANDUR_POLLING, PILQANDUR_DEFERRABLE, PILQANDUR_SPORADIC, PILQANDUR_RETURNING};
+    const uint32_t responses[5] = {6, 9, 4, 7, 7};
+    for (int i = 0; i < 5; i++) {
         struct pilqandur_table t = {.tasks = {{3, 6, 2, 6}}, .n = 1, .server = {kinds[i], 0, 5, 2}};
         if (kinds[i] == PILQANDUR_BACKGROUND)
             t.server = (struct pilqandur_server){kinds[i], 1, 0, 0};
@@ -141,7 +145,33 @@ static void kind_responses(void)
             expect(!ticked.finished || ticked.kind == PILQANDUR_REQUEST, "REQUEST");
         }
         expect(ticked.response == responses[i], "a kind of server");
+        expect(s.returns.n == (kinds[i] == PILQANDUR_RETURNING ? 1u : 0u), "a kind of server: what it holds");
     }
+}
+
+/* Kind 4's stretches at their limit: no tick is served that would open one more, and a state with one more is unfit. The other kinds do not
+ * look at them. */
+static void stretch_numbers(void)
+{
+    struct pilqandur_table t = {.tasks = {{0, 200, 1, 200}}, .n = 1, .server = {PILQANDUR_RETURNING, 0, 200, PILQANDUR_MAX_STRETCHES + 1}};
+    struct pilqandur_state s = pilqandur_set_up(t).state;
+    for (uint32_t i = 0; i < PILQANDUR_MAX_STRETCHES; i++)
+        s.returns.stretches[i] = (struct pilqandur_stretch){2 * i, 1};
+    s.returns.n = PILQANDUR_MAX_STRETCHES;
+    s.progress.server.budget = 1;
+    s.progress.clock = 2 * PILQANDUR_MAX_STRETCHES - 1;
+    expect(pilqandur_request_at(&s, 1, 1) == PILQANDUR_DONE, "MAX_STRETCHES");
+    expect(pilqandur_tick(s).kind == PILQANDUR_REQUEST, "a tick that makes the last stretch longer");
+    s.progress.clock++;
+    expect(pilqandur_tick(s).number == PILQANDUR_DONE && pilqandur_tick(s).kind == PILQANDUR_IDLE, "a tick that would open one stretch more");
+    s.returns.n--;
+    s.progress.server.budget++;
+    expect(pilqandur_tick(s).kind == PILQANDUR_REQUEST, "a tick that opens the last stretch");
+    s.returns.n += 2;
+    s.progress.server.budget--;
+    expect(pilqandur_tick(s).number == PILQANDUR_UNFIT_STATE, "MAX_STRETCHES, UNFIT_STATE");
+    s.table.server.kind = PILQANDUR_DEFERRABLE;
+    expect(pilqandur_tick(s).number == PILQANDUR_DONE, "stretches under another kind");
 }
 
 /* Refusals 4, 5, 6 and 10, and the limits of a state. */
@@ -166,6 +196,7 @@ int main(void)
     expect(pilqandur_version() == PILQANDUR_VERSION, "header and archive are of two versions");
     table_numbers();
     kind_responses();
+    stretch_numbers();
     state_numbers();
     struct pilqandur_table table = plain;
     struct pilqandur_state state;
@@ -191,6 +222,15 @@ int main(void)
     }
     state.progress.clock = PILQANDUR_LAST_CLOCK;
     all(&state);
+    table.server.kind = PILQANDUR_RETURNING;
+    set_up(&state, &table);
+    for (int i = 0; i < 200; i++)
+        all(&state);
+    expect(state.returns.n > 0, "no tick is held");
+    const unsigned unfit = refused[PILQANDUR_UNFIT_STATE];
+    state.returns.stretches[0].length++;
+    all(&state);
+    expect(refused[PILQANDUR_UNFIT_STATE] == unfit + 7, "a damaged stretch was taken");
     const unsigned met[] = {PILQANDUR_BAD_TASK,    PILQANDUR_BAD_WORK,     PILQANDUR_QUEUE_FULL,
                             PILQANDUR_CLOCK_SPENT, PILQANDUR_SHORT_RECORD, PILQANDUR_UNFIT_STATE};
     for (size_t i = 0; i < sizeof met / sizeof met[0]; i++)

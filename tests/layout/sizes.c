@@ -45,10 +45,17 @@ int main(void)
     SIZE(queue);
     AT(queue, requests);
     AT(queue, n);
+    SIZE(stretch);
+    AT(stretch, start);
+    AT(stretch, length);
+    SIZE(returns);
+    AT(returns, stretches);
+    AT(returns, n);
     SIZE(state);
     AT(state, table);
     AT(state, progress);
     AT(state, queue);
+    AT(state, returns);
     SIZE(entry);
     AT(entry, kind);
     AT(entry, id);
@@ -77,6 +84,7 @@ int main(void)
     AT(tick_result, state);
     NUMBER(MAX_TASKS);
     NUMBER(MAX_WAITING);
+    NUMBER(MAX_STRETCHES);
     NUMBER(MAX_TIME);
     NUMBER(MAX_WORK);
     NUMBER(LAST_CLOCK);
@@ -84,6 +92,7 @@ int main(void)
     NUMBER(POLLING);
     NUMBER(DEFERRABLE);
     NUMBER(SPORADIC);
+    NUMBER(RETURNING);
     NUMBER(IDLE);
     NUMBER(TASK);
     NUMBER(REQUEST);

@@ -29,13 +29,16 @@ fn main() {
     layout!("progress", Progress, left server clock);
     layout!("waiting", Waiting, id work arrival);
     layout!("queue", Queue, requests n);
-    layout!("state", State, table progress queue);
+    layout!("stretch", Stretch, start length);
+    layout!("returns", Returns, stretches n);
+    layout!("state", State, table progress queue returns);
     layout!("entry", Entry, kind id drops);
     layout!("set_up_result", SetUpResult, number index state);
     layout!("admission_result", AdmissionResult, number index bounds serverbound admitted);
     layout!("moved_result", MovedResult, number state);
     layout!("tick_result", TickResult, number kind id drops finished request response state);
-    numbers!(MAX_TASKS MAX_WAITING MAX_TIME MAX_WORK LAST_CLOCK BACKGROUND POLLING DEFERRABLE SPORADIC IDLE TASK REQUEST);
+    numbers!(MAX_TASKS MAX_WAITING MAX_STRETCHES MAX_TIME MAX_WORK LAST_CLOCK);
+    numbers!(BACKGROUND POLLING DEFERRABLE SPORADIC RETURNING IDLE TASK REQUEST);
     numbers!(DONE TASK_COUNT BAD_TASK BAD_SERVER BAD_WORK QUEUE_FULL CLOCK_SPENT PLAN_TOO_LONG BAD_LINE LINE_MISPLACED);
     numbers!(SHORT_RECORD UNFIT_STATE);
 }

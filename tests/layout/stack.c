@@ -85,7 +85,7 @@ static struct pilqandur_table any_table(void)
         uint32_t period = 4 + below(60), deadline = 1 + below(period);
         t.tasks[i] = (struct pilqandur_task){below(20), period, 1 + below(deadline < 5 ? deadline : 5), deadline};
     }
-    uint32_t kind = below(PILQANDUR_SPORADIC + 1), period = 2 + below(20);
+    uint32_t kind = below(PILQANDUR_RETURNING + 1), period = 2 + below(20);
     t.server = (struct pilqandur_server){kind, below(t.n + 1), period, 1 + below(period)};
     if (kind == PILQANDUR_BACKGROUND)
         t.server = (struct pilqandur_server){kind, t.n, 0, 0};

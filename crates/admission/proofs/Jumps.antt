@@ -121,7 +121,8 @@ module _ (s : Server) (n v : ℕ) (limits : ServerLimits s n) (part : ServerPart
             (omega (arith, limits .within, ceil-reaches (x - s .budget) (s .period) (some (omega arith)))),
       )
       by (suc (suc (suc zero))) e = reaching (ceil x (s .period)) x (omega arith) (ceil-reaches x (s .period) (some (omega arith)))
-      by (suc (suc (suc (suc k)))) e = absurd (omega (arith, limits .kind))
+      by (suc (suc (suc (suc zero)))) e = reaching (ceil x (s .period)) x (omega arith) (ceil-reaches x (s .period) (some (omega arith)))
+      by (suc (suc (suc (suc (suc k))))) e = absurd (omega (arith, limits .kind))
 
   -- the deferrable server's extra budget, less its part of as many ticks
   pub lead-le : s .budget * (whole - s .budget * v) ≤ maxTime * whole

@@ -80,7 +80,7 @@ fn task_parts(
     out
 }
 
-// The server's part: kinds 1 to 3 have one.
+// The server's part: kinds 1 to 4 have one.
 fn server_part(server: Server) -> u64
     ensures { λ r. ⌜ ServerPart server r ⌝ }
 {
@@ -209,6 +209,7 @@ fn server_turns(server: Server, n: u32, part: u64, l: u32) -> u64
         1 => turns(l, server.period, part),
         2 => 1 + turns(beyond(l, server.budget), server.period, part),
         3 => turns(l, server.period, part),
+        4 => turns(l, server.period, part),
         _ => 0,
     }
 }
@@ -344,7 +345,7 @@ fn task_bounds(
     out
 }
 
-// The bound of a server of kinds 1 to 3.
+// The bound of a server of kinds 1 to 4.
 fn own_bound(table: Table, parts: Parts) -> u32
     requires { ⌜ (passed (tableCheck table) ≡ true) × PartsOf table parts × (1 ≤ table .server .kind) ⌝ }
     ensures { λ r. ⌜ r ≡ ownBound (taskSetOf table) ⌝ }
@@ -364,7 +365,7 @@ fn own_bound(table: Table, parts: Parts) -> u32
     )
 }
 
-// The server's own bound: kinds 1 to 3 have one.
+// The server's own bound: kinds 1 to 4 have one.
 fn server_bound(table: Table, parts: Parts) -> u32
     requires { ⌜ (passed (tableCheck table) ≡ true) × PartsOf table parts ⌝ }
     ensures { λ r. ⌜ r ≡ serverBound (taskSetOf table) ⌝ }
@@ -375,6 +376,7 @@ fn server_bound(table: Table, parts: Parts) -> u32
         1 => own_bound(table, parts),
         2 => own_bound(table, parts),
         3 => own_bound(table, parts),
+        4 => own_bound(table, parts),
         _ => 0,
     }
 }
@@ -396,7 +398,7 @@ fn all_bounded(slots: [u32; Table::MAX_TASKS as usize], n: u32) -> bool
     true
 }
 
-// "for kinds 1 to 3, the server's too"
+// "for kinds 1 to 3, the server's too"; 3/13: and for kind 4
 fn server_admitted(kind: u32, bound: u32) -> bool
     ensures { λ r. ⌜ r ≡ serverAdmitted (kindOf kind) bound ⌝ }
 {
@@ -404,6 +406,7 @@ fn server_admitted(kind: u32, bound: u32) -> bool
         1 => 0 < bound,
         2 => 0 < bound,
         3 => 0 < bound,
+        4 => 0 < bound,
         _ => true,
     }
 }

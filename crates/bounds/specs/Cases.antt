@@ -42,16 +42,21 @@ pub record AdmissionCases : Type 0 where
   pub three-background-3-0-0 : says (admissionCall (table three (server 0 3 0 0))) ≡ (0, 1 ∷ 3 ∷ 7 ∷ [], 0, true)
   pub three-polling-0-2-2 : says (admissionCall (table three (server 1 0 2 2))) ≡ (0, 0 ∷ 0 ∷ 0 ∷ [], 2, false)
   pub three-polling-3-9-5 : says (admissionCall (table three (server 1 3 9 5))) ≡ (0, 1 ∷ 3 ∷ 7 ∷ [], 0, false)
+  pub three-deferrable-3-9-5 : says (admissionCall (table three (server 2 3 9 5))) ≡ (0, 1 ∷ 3 ∷ 7 ∷ [], 0, false)
+  pub three-sporadic-3-9-5 : says (admissionCall (table three (server 3 3 9 5))) ≡ (0, 1 ∷ 3 ∷ 7 ∷ [], 0, false)
   pub tight-polling-2-10-2 : says (admissionCall (table tight (server 1 2 10 2))) ≡ (0, 3 ∷ 6 ∷ 29 ∷ [], 8, true)
   pub tight-deferrable-2-10-2 : says (admissionCall (table tight (server 2 2 10 2))) ≡ (0, 3 ∷ 6 ∷ 0 ∷ [], 8, false)
   pub tight-sporadic-2-10-2 : says (admissionCall (table tight (server 3 2 10 2))) ≡ (0, 3 ∷ 6 ∷ 29 ∷ [], 8, true)
   pub tight-polling-1-10-2 : says (admissionCall (table tight (server 1 1 10 2))) ≡ (0, 3 ∷ 0 ∷ 29 ∷ [], 5, false)
+  -- 3/13: kind 4's demand is that of polling, and it has a bound of its own, which admission asks for
+  pub three-returning-1-8-1 : says (admissionCall (table three (server 4 1 8 1))) ≡ (0, 1 ∷ 4 ∷ 12 ∷ [], 2, true)
+  pub three-returning-3-9-5 : says (admissionCall (table three (server 4 3 9 5))) ≡ (0, 1 ∷ 3 ∷ 7 ∷ [], 0, false)
   pub refused-count : says (admissionCall (table [] (server 2 0 5 2))) ≡ (1, 0 ∷ 0 ∷ 0 ∷ [], 0, false)
   pub refused-task : says (admissionCall (table (task 3 6 2 6 ∷ task 0 5 6 5 ∷ []) (server 2 0 5 2))) ≡ (2, 0 ∷ 0 ∷ 0 ∷ [], 0, false)
-  pub refused-server : says (admissionCall (table (task 3 6 2 6 ∷ []) (server 4 0 5 2))) ≡ (3, 0 ∷ 0 ∷ 0 ∷ [], 0, false)
+  pub refused-server : says (admissionCall (table (task 3 6 2 6 ∷ []) (server 5 0 5 2))) ≡ (3, 0 ∷ 0 ∷ 0 ∷ [], 0, false)
   -- slots past the tasks in use are 0
   pub slots-past : admissionCall (table three (server 0 3 0 0)) .bounds ≡ 1 ∷ 3 ∷ 7 ∷ replicate (maxTasks - 3) 0
-  pub refused-slots : admissionCall (table three (server 4 0 5 2)) .bounds ≡ replicate maxTasks 0
+  pub refused-slots : admissionCall (table three (server 5 0 5 2)) .bounds ≡ replicate maxTasks 0
 
 pub admission-cases : AdmissionCases
 unfolding overlay
@@ -63,10 +68,14 @@ admission-cases = record {
   three-background-3-0-0 = refl;
   three-polling-0-2-2 = refl;
   three-polling-3-9-5 = refl;
+  three-deferrable-3-9-5 = refl;
+  three-sporadic-3-9-5 = refl;
   tight-polling-2-10-2 = refl;
   tight-deferrable-2-10-2 = refl;
   tight-sporadic-2-10-2 = refl;
   tight-polling-1-10-2 = refl;
+  three-returning-1-8-1 = refl;
+  three-returning-3-9-5 = refl;
   refused-count = refl;
   refused-task = refl;
   refused-server = refl;

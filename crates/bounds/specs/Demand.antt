@@ -7,7 +7,7 @@ use lib.Dec.{leb, ltb}
 use Rattle.lists.specs.Lists.{all}
 use Rattle.lists.specs.Time.{ceil}
 use Rattle.server.specs.declared.Server.{Server}
-use Rattle.server.specs.Kind.{Kind, background, polling, deferrable, sporadic, kindOf}
+use Rattle.server.specs.Kind.{Kind, background, polling, deferrable, sporadic, returning, kindOf}
 use Rattle.server.specs.Server.{serverDemand}
 use Rattle.table.specs.declared.Task.{Task}
 use Rattle.table.specs.Model.{TaskSet}
@@ -23,7 +23,7 @@ abbrev pub below : Server → ℕ → Bool
 below s i = leb (s .place) i
 
 -- "For row i and length L from 1 to D, the demand is e of row i, plus ceil(L/p) × e for each row before it, plus, if the row is
--- below a server of kinds 1 to 3", the server's term.
+-- below a server of kinds 1 to 3" (3/13: or 4), the server's term.
 abbrev pub demand : TaskSet → ℕ → Task → ℕ → ℕ
 demand p i x L =
     x .exec + tasksDemand (take i (p .tasks)) L
@@ -54,6 +54,8 @@ serverBoundBy background p = 0
 serverBoundBy polling p = ownBound p
 serverBoundBy deferrable p = ownBound p
 serverBoundBy sporadic p = ownBound p
+-- 3/13: "The server's limits and own bound are those of kinds 1 to 3"
+serverBoundBy returning p = ownBound p
 
 abbrev pub serverBound : TaskSet → ℕ
 serverBound p = serverBoundBy (kindOf (p .server .kind)) p
@@ -64,6 +66,8 @@ serverAdmitted background R = true
 serverAdmitted polling R = ltb 0 R
 serverAdmitted deferrable R = ltb 0 R
 serverAdmitted sporadic R = ltb 0 R
+-- 3/13: kind 4 as kinds 1 to 3
+serverAdmitted returning R = ltb 0 R
 
 abbrev pub admitted : TaskSet → Bool
 admitted p = all (ltb 0) (bounds p) && serverAdmitted (kindOf (p .server .kind)) (serverBound p)

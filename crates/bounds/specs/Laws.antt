@@ -10,7 +10,7 @@ use mathlib.Core.List.{List, [], _∷_}
 use lib.ListN.{take}
 use Rattle.lists.specs.Time.{ceil}
 use Rattle.server.specs.declared.Server.{Server}
-use Rattle.server.specs.Kind.{Kind, background, polling, deferrable, sporadic, kindOf}
+use Rattle.server.specs.Kind.{Kind, background, polling, deferrable, sporadic, returning, kindOf}
 use Rattle.server.specs.Server.{serverDemand}
 use Rattle.table.specs.declared.Task.{Task}
 use Rattle.table.specs.declared.Table.{Table}
@@ -56,6 +56,7 @@ server-mono polling s L M h = term-mono L M (s .period) (s .budget) h
 server-mono deferrable s L M h =
     omega (arith, term-mono (L - s .budget) (M - s .budget) (s .period) (s .budget) (omega arith))
 server-mono sporadic s L M h = term-mono L M (s .period) (s .budget) h
+server-mono returning s L M h = term-mono L M (s .period) (s .budget) h
 
 pub demand-of-mono : (p : TaskSet) (i own : ℕ) (beside : Bool) (L M : ℕ) → L ≤ M →
     demandOf p i own beside L ≤ demandOf p i own beside M

@@ -5,7 +5,9 @@ use queue::Queue;
 use queue::Request;
 use rules::Entry;
 use scheduler::Recording;
+use server::Returns;
 use server::ServerState;
+use server::Stretch;
 use table::Progress;
 use table::State;
 use table::Table;
@@ -18,6 +20,9 @@ const TASKS: usize = Table::MAX_TASKS as usize;
 
 // The slots of a queue.
 const WAITING: usize = Table::MAX_WAITING as usize;
+
+// The slots of the returns.
+const STRETCHES: usize = Returns::CAPACITY as usize;
 
 fn mix(h: u64, x: u32) -> u64 {
     ((h % MODULUS) * 31 + (x as u64)) % MODULUS
@@ -99,6 +104,26 @@ fn mix_queue(h: u64, queue: Queue) -> u64 {
     mix_requests(mix(h, queue.n), requests)
 }
 
+fn mix_stretch(h: u64, stretch: Stretch) -> u64 {
+    mix(mix(h, stretch.start), stretch.length)
+}
+
+fn mix_stretches(h: u64, stretches: [Stretch; STRETCHES]) -> u64 {
+    let mut sum = h;
+    let mut i: usize = 0;
+    while i < STRETCHES {
+        let stretch = stretches[i];
+        sum = mix_stretch(sum, stretch);
+        i += 1;
+    }
+    sum
+}
+
+fn mix_returns(h: u64, returns: Returns) -> u64 {
+    let stretches = returns.stretches;
+    mix_stretches(mix(h, returns.n), stretches)
+}
+
 // One number for the record of a run.
 pub fn mix_entries(entries: [Entry; Recording::TICKS]) -> u64 {
     let mut sum: u64 = 0;
@@ -115,5 +140,9 @@ pub fn digest(state: State) -> u64 {
     let table = state.table;
     let progress = state.progress;
     let queue = state.queue;
-    mix_queue(mix_progress(mix_table(0, table), progress), queue)
+    let returns = state.returns;
+    mix_returns(
+        mix_queue(mix_progress(mix_table(0, table), progress), queue),
+        returns,
+    )
 }

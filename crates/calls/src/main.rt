@@ -132,8 +132,8 @@ fn server(kind: u32) {
 // 1 before 2, 2 before 3, and the first bad index of two.
 fn table_orders(kind: u32) {
     pair_case(kind, b'n', 0, 0, b'e', 0, 0);
-    pair_case(kind, b'n', 0, 17, b'k', 0, 4);
-    pair_case(kind, b'e', 1, 0, b'k', 0, 4);
+    pair_case(kind, b'n', 0, 17, b'k', 0, 5);
+    pair_case(kind, b'e', 1, 0, b'k', 0, 5);
     pair_case(kind, b'e', 1, 0, b'f', 0, 60001);
     pair_case(kind, b'n', 0, 3, b'e', 2, 0);
     pair_case(kind, b'n', 0, 16, b'e', 15, 9);
@@ -165,6 +165,26 @@ fn queue(kind: u32) {
     cases(kind, b'i', 0, false, &[0, 4294967295]);
 }
 
+// Kind 4's further limits, which the others do not ask: ticks 92, 93 and 96 are held, and one budget tick is left of four.
+fn returns(kind: u32) {
+    cases(kind, b'h', 0, false, &[0, 1, 3, 32, 33, 4294967295]);
+    cases(kind, b'S', 0, false, &[89, 90, 93, 94, 95, 97]);
+    cases(kind, b'S', 1, false, &[94, 95, 99, 100, 4294967295]);
+    cases(kind, b'L', 0, false, &[0, 1, 3]);
+    cases(kind, b'L', 1, false, &[0, 2, 4294967295]);
+    cases(kind, b'L', 2, false, &[0]);
+}
+
+// The held ticks and the budget together.
+fn returns_orders(kind: u32) {
+    pair_case(kind, b'b', 0, 0, b'L', 0, 3);
+    pair_case(kind, b'b', 0, 2, b'L', 1, 0);
+    pair_case(kind, b'b', 0, 2, b'h', 0, 1);
+    pair_case(kind, b'b', 0, 4, b'h', 0, 0);
+    pair_case(kind, b'c', 0, 97, b'P', 0, 5);
+    pair_case(kind, b'c', 0, 97, b'P', 0, 4);
+}
+
 // 11 before 6.
 fn state_orders(kind: u32) {
     pair_case(kind, b'c', 0, 4000000000, b'l', 0, 4);
@@ -188,6 +208,8 @@ fn limits(kind: u32) {
     table_orders(kind);
     progress(kind);
     queue(kind);
+    returns(kind);
+    returns_orders(kind);
     state_orders(kind);
     requests(kind);
 }
@@ -197,4 +219,5 @@ fn main() {
     limits(1);
     limits(2);
     limits(3);
+    limits(4);
 }

@@ -1,9 +1,11 @@
 // The states that the cases start from, and one field of them put to another value.
 use queue::Queue;
 use queue::Request;
+use server::Returns;
 use server::Server;
 use server::ServerState;
 use server::Sporadic;
+use server::Stretch;
 use table::Progress;
 use table::State;
 use table::Table;
@@ -14,6 +16,7 @@ use table::Task;
 //   server    k kind, s place, P period, B budget
 //   progress  l left (with a slot), b budget, t tr, g begin, r nr, c clock
 //   queue     i id, w work, a arrival (each with a slot), q how many wait
+//   returns   S start, L length (each with a slot), h how many stretches are held
 // Two tasks in use; the other slots hold tasks that keep their limits. Kind 0 stands below both tasks and has no budget; every
 // other kind has one task above it.
 fn table(kind: u32) -> Table {
@@ -61,6 +64,9 @@ fn progress(kind: u32) -> Progress {
     if kind == 0 {
         budget = 0;
     }
+    if kind == 4 {
+        budget = 1;
+    }
     Progress {
         left,
         server: ServerState {
@@ -105,14 +111,34 @@ fn queue() -> Queue {
     Queue { requests, n: 3 }
 }
 
+// Two stretches are held, of two ticks and of one, in the last ten before the clock; the slot after them ends past it.
+fn returns() -> Returns {
+    let other = Stretch {
+        start: 99,
+        length: 9,
+    };
+    let mut stretches = [other; Returns::CAPACITY as usize];
+    stretches[0] = Stretch {
+        start: 92,
+        length: 2,
+    };
+    stretches[1] = Stretch {
+        start: 96,
+        length: 1,
+    };
+    Returns { stretches, n: 2 }
+}
+
 fn state(kind: u32) -> State {
     let table = table(kind);
     let progress = progress(kind);
     let queue = queue();
+    let returns = returns();
     State {
         table,
         progress,
         queue,
+        returns,
     }
 }
 
@@ -198,11 +224,33 @@ fn queue_with(mut queue: Queue, letter: u8, slot: usize, value: u32) -> Queue {
     queue
 }
 
+fn stretch_with(mut stretch: Stretch, letter: u8, value: u32) -> Stretch {
+    match letter {
+        b'S' => stretch.start = value,
+        b'L' => stretch.length = value,
+        _ => {}
+    }
+    stretch
+}
+
+fn returns_with(mut returns: Returns, letter: u8, slot: usize, value: u32) -> Returns {
+    if Returns::CAPACITY as usize <= slot {
+        return returns;
+    }
+    let stretch = returns.stretches[slot];
+    returns.stretches[slot] = stretch_with(stretch, letter, value);
+    if letter == b'h' {
+        returns.n = value;
+    }
+    returns
+}
+
 // The state with a field put to a value.
 pub fn state_with(mut state: State, letter: u8, slot: usize, value: u32) -> State {
     state.table = table_with(state.table, letter, slot, value);
     state.progress = progress_with(state.progress, letter, slot, value);
     state.queue = queue_with(state.queue, letter, slot, value);
+    state.returns = returns_with(state.returns, letter, slot, value);
     state
 }
 

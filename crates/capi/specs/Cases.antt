@@ -6,6 +6,7 @@ use mathlib.Core.List.{List, [], _∷_}
 use Rattle.queue.specs.declared.Finish.{Finish}
 use Rattle.table.specs.declared.Checked.{Checked}
 use Rattle.table.specs.declared.Refusal.{Refusal}
+use Rattle.server.specs.declared.Returns.{Returns}
 use Rattle.queue.specs.declared.Queue.{Queue}
 use Rattle.table.specs.declared.Table.{Table}
 use Rattle.table.specs.declared.State.{State}
@@ -103,6 +104,7 @@ module _ (s : CState) (f : Figures) (x : TickFigures) (next : State) (k : ℕ) (
     table = s .table;
     progress = record { left = s .progress .left; server = record { budget = 1; sporadic = flags 0 2 0 1 }; clock = s .progress .clock };
     queue = s .queue;
+    returns = s .returns;
   }
 
   moved-damaged : movedResult damaged f next ≡ record { number = 11; state = damaged }
@@ -115,12 +117,13 @@ module _ (s : CState) (f : Figures) (x : TickFigures) (next : State) (k : ℕ) (
   list-damaged = refl
 
 -- ---- a state with flags that fit: each number in its place, and the call's own answer
-module _ (t : Table) (q : Queue) (f : Figures) (x : TickFigures) (next : State) (k : ℕ) (lent : List Entry) where
+module _ (t : Table) (q : Queue) (r : Returns) (f : Figures) (x : TickFigures) (next : State) (k : ℕ) (lent : List Entry) where
   abbrev whole : CState
   whole = record {
     table = t;
     progress = record { left = 7 ∷ 8 ∷ []; server = record { budget = 9; sporadic = flags 1 0 0 1 }; clock = 10 };
     queue = q;
+    returns = r;
   }
 
   abbrev meant : State
@@ -132,6 +135,7 @@ module _ (t : Table) (q : Queue) (f : Figures) (x : TickFigures) (next : State) 
       clock = 10;
     };
     queue = q;
+    returns = r;
   }
 
   from : stateFrom whole ≡ meant

@@ -40,12 +40,13 @@ loaded kind =
     boundAt (marked kind) 0 ∷ admissionCall (marked kind) .serverbound ∷ clockAfter (marked kind) load ∷ length (ticks (marked kind) load)
     ∷ howMany hasRequest (ticks (marked kind) load) ∷ howMany (hasTask 0) (ticks (marked kind) load) ∷ []
 
-admitted-each : map (λ (k : ℕ). admissionCall (marked k) .admitted) (0 ∷ 1 ∷ 2 ∷ 3 ∷ []) ≡ true ∷ true ∷ true ∷ true ∷ []
+admitted-each : map (λ (k : ℕ). admissionCall (marked k) .admitted) (0 ∷ 1 ∷ 2 ∷ 3 ∷ 4 ∷ []) ≡ true ∷ true ∷ true ∷ true ∷ true ∷ []
 unfolding overlay
 admitted-each = refl
 
-loaded-each : map loaded (0 ∷ 1 ∷ 2 ∷ 3 ∷ []) ≡
-    (2 ∷ 0 ∷ 15 ∷ 15 ∷ 11 ∷ 4 ∷ []) ∷ (4 ∷ 2 ∷ 15 ∷ 15 ∷ 6 ∷ 4 ∷ []) ∷ (6 ∷ 2 ∷ 15 ∷ 15 ∷ 6 ∷ 4 ∷ []) ∷ (4 ∷ 2 ∷ 15 ∷ 15 ∷ 8 ∷ 4 ∷ []) ∷ []
+loaded-each : map loaded (0 ∷ 1 ∷ 2 ∷ 3 ∷ 4 ∷ []) ≡
+    (2 ∷ 0 ∷ 15 ∷ 15 ∷ 11 ∷ 4 ∷ []) ∷ (4 ∷ 2 ∷ 15 ∷ 15 ∷ 6 ∷ 4 ∷ []) ∷ (6 ∷ 2 ∷ 15 ∷ 15 ∷ 6 ∷ 4 ∷ []) ∷ (4 ∷ 2 ∷ 15 ∷ 15 ∷ 8 ∷ 4 ∷ [])
+    ∷ (4 ∷ 2 ∷ 15 ∷ 15 ∷ 6 ∷ 4 ∷ []) ∷ []
 unfolding overlay
 loaded-each = refl
 
@@ -62,9 +63,9 @@ unfolding overlay
 served = refl
 
 -- so the theorem applies, to these calls and to every other list
-kept-each : (calls : List Call) → Guarantee (marked 0) calls × Guarantee (marked 1) calls × Guarantee (marked 2) calls × Guarantee (marked 3) calls
+kept-each : (calls : List Call) → Guarantee (marked 0) calls × Guarantee (marked 1) calls × Guarantee (marked 2) calls × Guarantee (marked 3) calls × Guarantee (marked 4) calls
 unfolding overlay
-kept-each calls = (guarantee (marked 0) refl calls, guarantee (marked 1) refl calls, guarantee (marked 2) refl calls, guarantee (marked 3) refl calls)
+kept-each calls = (guarantee (marked 0) refl calls, guarantee (marked 1) refl calls, guarantee (marked 2) refl calls, guarantee (marked 3) refl calls, guarantee (marked 4) refl calls)
 
 -- ---- "With D = 5 deferrable: bound 0, and tick 8 drops one"
 abbrev tight : Table
@@ -100,16 +101,16 @@ pressed = request 7 40 ∷ request 8 0 ∷ tick ∷ run 5 (lent 4) ∷ run 3 (le
 
 -- under each kind
 abbrev each : {A : Type 0} → (Table → A) → List A
-each f = map (λ (k : ℕ). f (crowded k)) (0 ∷ 1 ∷ 2 ∷ 3 ∷ [])
+each f = map (λ (k : ℕ). f (crowded k)) (0 ∷ 1 ∷ 2 ∷ 3 ∷ 4 ∷ [])
 
-abbrev four : {A : Type 0} → A → List A
-four a = a ∷ a ∷ a ∷ a ∷ []
+abbrev alike : {A : Type 0} → A → List A
+alike a = each (λ _. a)
 
-not-admitted : each (λ t. admissionCall t .admitted) ≡ four false
+not-admitted : each (λ t. admissionCall t .admitted) ≡ alike false
 unfolding overlay
 not-admitted = refl
 
-nine-ticks : (each (λ t. acceptedTicks t calm) ≡ four 9) × (each (λ t. acceptedTicks t pressed) ≡ four 9)
+nine-ticks : (each (λ t. acceptedTicks t calm) ≡ alike 9) × (each (λ t. acceptedTicks t pressed) ≡ alike 9)
 unfolding overlay
 nine-ticks = (refl, refl)
 
@@ -126,30 +127,30 @@ abbrev itsDrops : List Call → ℕ → List (List ℕ)
 itsDrops calls i = each (λ t. those (droppedIn t calls i) 0 9)
 
 -- task 1, above the server: ticks 2 and 6, and dropped in ticks 3 and 7, in both lists
-above-runs : (itsTicks calm 1 ≡ four (2 ∷ 6 ∷ [])) × (itsTicks pressed 1 ≡ four (2 ∷ 6 ∷ []))
+above-runs : (itsTicks calm 1 ≡ alike (2 ∷ 6 ∷ [])) × (itsTicks pressed 1 ≡ alike (2 ∷ 6 ∷ []))
 unfolding overlay
 above-runs = (refl, refl)
 
-above-dropped : (itsDrops calm 1 ≡ four (3 ∷ 7 ∷ [])) × (itsDrops pressed 1 ≡ four (3 ∷ 7 ∷ []))
+above-dropped : (itsDrops calm 1 ≡ alike (3 ∷ 7 ∷ [])) × (itsDrops pressed 1 ≡ alike (3 ∷ 7 ∷ []))
 unfolding overlay
 above-dropped = (refl, refl)
 
 -- as the theorem says: of these two lists under each kind, for example of task 1 and tick 6
-unnoticed-each : Unnoticed (crowded 0) calm pressed × Unnoticed (crowded 1) calm pressed × Unnoticed (crowded 2) calm pressed × Unnoticed (crowded 3) calm pressed
+unnoticed-each : Unnoticed (crowded 0) calm pressed × Unnoticed (crowded 1) calm pressed × Unnoticed (crowded 2) calm pressed × Unnoticed (crowded 3) calm pressed × Unnoticed (crowded 4) calm pressed
 unfolding overlay
 unnoticed-each =
-    (unnoticed (crowded 0) calm pressed refl, unnoticed (crowded 1) calm pressed refl, unnoticed (crowded 2) calm pressed refl, unnoticed (crowded 3) calm pressed refl)
+    (unnoticed (crowded 0) calm pressed refl, unnoticed (crowded 1) calm pressed refl, unnoticed (crowded 2) calm pressed refl, unnoticed (crowded 3) calm pressed refl, unnoticed (crowded 4) calm pressed refl)
 
 above-same : runsIn (crowded 2) calm 1 6 ≡ runsIn (crowded 2) pressed 1 6
 unfolding overlay
 above-same = unnoticed-each .2 .runs 1 6 (omega arith, omega arith) (omega arith)
 
--- task 2, below it under kinds 1 to 3: ticks 3 and 7 and no drop without requests, no tick and dropped in ticks 4 and 8 with them
-below-runs : (itsTicks calm 2 ≡ four (3 ∷ 7 ∷ [])) × (itsTicks pressed 2 ≡ (3 ∷ 7 ∷ []) ∷ [] ∷ [] ∷ [] ∷ [])
+-- task 2, below it under kinds 1 to 4: ticks 3 and 7 and no drop without requests, no tick and dropped in ticks 4 and 8 with them
+below-runs : (itsTicks calm 2 ≡ alike (3 ∷ 7 ∷ [])) × (itsTicks pressed 2 ≡ (3 ∷ 7 ∷ []) ∷ [] ∷ [] ∷ [] ∷ [] ∷ [])
 unfolding overlay
 below-runs = (refl, refl)
 
-below-dropped : (itsDrops calm 2 ≡ four []) × (itsDrops pressed 2 ≡ [] ∷ (4 ∷ 8 ∷ []) ∷ (4 ∷ 8 ∷ []) ∷ (4 ∷ 8 ∷ []) ∷ [])
+below-dropped : (itsDrops calm 2 ≡ alike []) × (itsDrops pressed 2 ≡ [] ∷ (4 ∷ 8 ∷ []) ∷ (4 ∷ 8 ∷ []) ∷ (4 ∷ 8 ∷ []) ∷ (4 ∷ 8 ∷ []) ∷ [])
 unfolding overlay
 below-dropped = (refl, refl)
 

@@ -6,7 +6,7 @@ use mathlib.Core.List.{List}
 use lib.ListN.{length, getD}
 use Rattle.lists.specs.Time.{due}
 use Rattle.lists.specs.Stretch.{stretch, howMany}
-use Rattle.server.specs.Kind.{Kind, background, polling, deferrable, sporadic, kindOf}
+use Rattle.server.specs.Kind.{Kind, background, polling, deferrable, sporadic, returning, kindOf}
 use Rattle.table.specs.declared.Task.{Task}
 use Rattle.table.specs.declared.Table.{Table}
 use Rattle.table.specs.Model.{taskSetOf, noTask}
@@ -31,6 +31,7 @@ exact background = false
 exact polling = true
 exact deferrable = true
 exact sporadic = false
+exact returning = false
 
 -- Demand 3's "queue not empty": before tick a, and after each of the ticks a to a + P − 1
 abbrev pub NeverEmpty : Table → List Call → ℕ → Type 0

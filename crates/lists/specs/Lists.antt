@@ -1,11 +1,13 @@
 -- Lists: two lists joined element by element, and a list laid over the front of an array.
-use Prim.Native.Nat.{ℕ, zero, suc, pred, _+_, _<_}
+use Prim.Native.Nat.{ℕ, zero, suc, pred, _+_, _-_, _≤_, _<_}
+use native.Mathlib.Omega.{arith}
+use native.Mathlib.Numerals.{add-one}
 use native.Mathlib.Nat.{le-of-suc-le-suc, not-suc-le-zero}
 use mathlib.Core.Path.{_≡_, refl, ap}
 use mathlib.Core.Bool.{Bool, true, false, _&&_, _||_}
 use mathlib.Core.List.{List, [], _∷_, _++_}
 use lib.ListN.{length, take, drop, getD, set}
-use lib.Seq.{take-append-seam}
+use lib.Seq.{take-append-seam, length-take-le}
 
 -- the elements of two lists, joined one by one, as far as both go
 abbrev pub zipWith : {A B C : Type 0} → (A → B → C) → List A → List B → List C
@@ -93,3 +95,50 @@ pub zip-length : {A B C : Type 0} (f : A → B → C) (xs : List A) (ys : List B
 zip-length f [] ys e = e
 zip-length f (x ∷ xs) [] e = refl
 zip-length f (x ∷ xs) (y ∷ ys) e = ap suc (zip-length f xs ys (ap pred e))
+
+-- a longer list laid over the same front
+pub overlay-again : {A : Type 0} (new first old : List A) → length first ≤ length new → overlay new (overlay first old) ≡ overlay new old
+unfolding overlay
+overlay-again {A} new first old h = ap (λ (xs : List A). new ++ xs) (go (length new) first old h)
+  where
+    none : (k : ℕ) → _≡_ {A = List A} (drop k []) []
+    none zero = refl
+    none (suc k) = refl
+
+    go : (n : ℕ) (first old : List A) → length first ≤ n → drop n (first ++ drop (length first) old) ≡ drop n old
+    go n [] old h = refl
+    go zero (x ∷ first) old h = absurd (not-suc-le-zero h)
+    go (suc n) (x ∷ first) [] h = rw (none (length first), none n) at (go n first [] (le-of-suc-le-suc h))
+    go (suc n) (x ∷ first) (y ∷ old) h = go n first old (le-of-suc-le-suc h)
+
+-- ---- the first slot of an array leaves, and the others move up by one
+-- the first i slots have moved up
+abbrev pub shifted : {A : Type 0} → List A → ℕ → List A
+shifted l i = take i (drop 1 l) ++ drop i l
+
+pub shift-step : {A : Type 0} (l : List A) (i : ℕ) (d : A) → i + 1 < length l →
+    set (shifted l i) i (getD (shifted l i) (i + 1) d) ≡ shifted l (i + 1)
+shift-step {A} l i d h = rw add-one (rw (ahead l i (rw add-one at h)) (next l i (rw add-one at h)))
+  where
+    -- slots ahead are as they were
+    ahead : (l : List A) (i : ℕ) → suc i < length l → getD (shifted l i) (suc i) d ≡ getD l (suc i) d
+    ahead (x ∷ y ∷ l) zero h = refl
+    ahead (x ∷ y ∷ l) (suc i) h = ahead (y ∷ l) i (omega arith)
+    ahead (x ∷ []) i h = absurd (omega arith)
+    ahead [] i h = absurd (omega arith)
+
+    next : (l : List A) (i : ℕ) → suc i < length l → set (shifted l i) i (getD l (suc i) d) ≡ shifted l (suc i)
+    next (x ∷ y ∷ l) zero h = refl
+    next (x ∷ y ∷ l) (suc i) h = ap (λ (r : List A). y ∷ r) (next (y ∷ l) i (omega arith))
+    next (x ∷ []) i h = absurd (omega arith)
+    next [] i h = absurd (omega arith)
+
+-- all of the first n have moved up
+pub shifted-all : {A : Type 0} (n : ℕ) (l : List A) → 1 ≤ n → n ≤ length l →
+    (shifted l (n - 1) ≡ overlay (drop 1 (take n l)) l) × (n - 1 ≡ length (drop 1 (take n l)))
+unfolding overlay
+shifted-all zero l a h = absurd (omega arith)
+shifted-all (suc m) [] a h = absurd (omega arith)
+shifted-all (suc m) (x ∷ l) a h =
+    let less : suc m - 1 ≡ m = omega arith in
+    (rw (less, length-take-le m l (omega arith)), rw (less, length-take-le m l (omega arith)))

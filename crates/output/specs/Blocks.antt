@@ -132,7 +132,7 @@ ticksRun k p = record {
 }
 
 -- a block's first tick is not due either
-pub free-not-due : (ticks : ℕ) (p : Place) (k : ℕ) → 0 < k → Free ticks p k → NotDue (p .next) (p .tick)
+free-not-due : (ticks : ℕ) (p : Place) (k : ℕ) → 0 < k → Free ticks p k → NotDue (p .next) (p .tick)
 free-not-due ticks p k some free = go (p .next) (free .next)
   where
     go : (n : Next) → Undisturbed n (p .tick + k) → NotDue n (p .tick)

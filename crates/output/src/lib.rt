@@ -265,45 +265,37 @@ fn with_room(k: u32, n: usize, at: usize) -> u32
     k
 }
 
-// Runs k ticks at once.
-fn run_ticks(out: &mut [u8], at: usize, p: Place, k: u32) -> Printed
-    requires { ⌜ (1 < k) × (k ≤ blockTicks) × (p .tick + k ≤ maxNumber) × (at + k * lineRoom ≤ length (now out)) ⌝ }
-    ensures { λ r. ⌜ ((bytes : List ℕ) (ticks : ℕ) → Free ticks p k → Stepped bytes ticks (now (out .entry)) at p (now (out .exit)) (r .at) (r .place)) ⌝ }
-{
-    let state = p.state;
-    let next = p.next;
-    let totals = p.totals;
-    let b = scheduler::run_block(state, k);
-    let answer = b.answer;
-    match answer {
-        Checked::Passed => {
-            let entries = b.entries;
-            let moved = b.state;
-            let end = block_lines(out, at, p.tick, entries, k);
-            Printed {
-                place: Place {
-                    tick: p.tick + k,
-                    next,
-                    state: moved,
-                    totals: count_block(totals, entries, k),
-                },
-                at: end,
-            }
-        }
-        Checked::Refused(_) => run_tick(out, at, p),
-    }
-}
-
 // Runs ticks that no A line is due for any more: as many at once as can be, or one.
 fn run_on(ticks: u32, out: &mut [u8], at: usize, p: Place) -> Printed
     requires { ⌜ (at + stepRoom ≤ length (now out)) × (p .tick < ticks) × NotDue (p .next) (p .tick) ⌝ }
     ensures { λ r. ⌜ ((bytes : List ℕ) → Stepped bytes ticks (now (out .entry)) at p (now (out .exit)) (r .at) (r .place)) ⌝ }
 {
     let k = with_room(free_ticks(ticks, p), out.len(), at);
-    if k < 2 {
-        return run_tick(out, at, p);
+    if 1 < k {
+        let state = p.state;
+        let next = p.next;
+        let totals = p.totals;
+        let b = scheduler::run_block(state, k);
+        let answer = b.answer;
+        match answer {
+            Checked::Passed => {
+                let entries = b.entries;
+                let moved = b.state;
+                let end = block_lines(out, at, p.tick, entries, k);
+                return Printed {
+                    place: Place {
+                        tick: p.tick + k,
+                        next,
+                        state: moved,
+                        totals: count_block(totals, entries, k),
+                    },
+                    at: end,
+                };
+            }
+            Checked::Refused(_) => {}
+        }
     }
-    run_ticks(out, at, p, k)
+    run_tick(out, at, p)
 }
 
 // Goes on by some steps, one at least: an A line that is due, or else ticks.
@@ -315,13 +307,12 @@ fn step(plan: &[u8], ticks: u32, out: &mut [u8], at: usize, p: Place) -> Printed
     match next {
         Next::Found(a, q) => {
             if a.tick == p.tick {
-                present(plan, out, at, p, a, q)
-            } else {
-                run_on(ticks, out, at, p)
+                return present(plan, out, at, p, a, q);
             }
         }
-        Next::Done => run_on(ticks, out, at, p),
+        Next::Done => {}
     }
+    run_on(ticks, out, at, p)
 }
 
 // Fills the buffer from its start with what is printed from a place on, step by step as far as it has room.

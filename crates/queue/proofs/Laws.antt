@@ -1,4 +1,4 @@
--- The shift by one slot, step by step and as a whole, and what serving does to the front of an array.
+-- What serving and a request do to the front of an array.
 use Prim.Native.Nat.{ℕ, zero, suc, _+_, _-_, _≤_, _<_}
 use native.Mathlib.Omega.{arith}
 use native.Mathlib.Numerals.{add-one}
@@ -13,40 +13,9 @@ use Rattle.queue.specs.declared.Queue.{Queue}
 use Rattle.queue.specs.Queue.{maxWaiting, queueWith}
 use Rattle.queue.specs.Steps.{pushedQueue, servedQueue}
 
--- the first i slots have moved up
-abbrev pub shifted : List Request → ℕ → List Request
-shifted l i = take i (drop 1 l) ++ drop i l
-
-pub shift-step : (l : List Request) (i : ℕ) (d : Request) → i + 1 < length l →
-    set (shifted l i) i (getD (shifted l i) (i + 1) d) ≡ shifted l (i + 1)
-shift-step l i d h = rw add-one (rw (ahead l i (rw add-one at h)) (next l i (rw add-one at h)))
-  where
-    -- slots ahead are as they were
-    ahead : (l : List Request) (i : ℕ) → suc i < length l → getD (shifted l i) (suc i) d ≡ getD l (suc i) d
-    ahead (x ∷ y ∷ l) zero h = refl
-    ahead (x ∷ y ∷ l) (suc i) h = ahead (y ∷ l) i (omega arith)
-    ahead (x ∷ []) i h = absurd (omega arith)
-    ahead [] i h = absurd (omega arith)
-
-    next : (l : List Request) (i : ℕ) → suc i < length l → set (shifted l i) i (getD l (suc i) d) ≡ shifted l (suc i)
-    next (x ∷ y ∷ l) zero h = refl
-    next (x ∷ y ∷ l) (suc i) h = ap (λ (r : List Request). y ∷ r) (next (y ∷ l) i (omega arith))
-    next (x ∷ []) i h = absurd (omega arith)
-    next [] i h = absurd (omega arith)
-
 -- an array and how many of its slots are in use
 abbrev queueOf : List Request → ℕ → Queue
 queueOf l n = record { requests = l; n = n }
-
--- all that wait have moved up
-pub shifted-all : (n : ℕ) (l : List Request) → 1 ≤ n → n ≤ length l →
-    queueOf (shifted l (n - 1)) (n - 1) ≡ queueWith (queueOf l n) (drop 1 (take n l))
-unfolding overlay
-shifted-all zero l a h = absurd (omega arith)
-shifted-all (suc m) [] a h = absurd (omega arith)
-shifted-all (suc m) (x ∷ l) a h =
-    let less : suc m - 1 ≡ m = omega arith in
-    rw (less, length-take-le m l (omega arith))
 
 -- a store behind the front
 pub push-room : (l : List Request) (n id work t : ℕ) → n < maxWaiting → n < length l →

@@ -1,9 +1,11 @@
 -- Cases of the calls: each refusal in its order and at its limit, what a refused call leaves alone, and what a run writes.
-use Prim.Native.Nat.{ℕ, _-_}
+use Prim.Native.Nat.{ℕ, zero, suc, _+_, _-_}
 use mathlib.Core.Path.{_≡_, refl}
-use mathlib.Core.List.{[], _∷_, map}
+use mathlib.Core.List.{List, [], _∷_, map}
 use lib.ListN.{replicate}
 use Rattle.lists.specs.Lists.{overlay}
+use Rattle.server.specs.declared.Stretch.{Stretch}
+use Rattle.server.specs.Returns.{maxHeld, freshReturns}
 use Rattle.queue.specs.Queue.{maxWaiting}
 use Rattle.table.specs.declared.State.{State}
 use Rattle.table.specs.Refusal.{number, numberOf}
@@ -12,7 +14,7 @@ use Rattle.table.specs.State.{freshState}
 use Rattle.rules.specs.declared.TickAnswer.{TickAnswer}
 use Rattle.rules.specs.declared.Entry.{Entry}
 use Rattle.rules.specs.Calls.{requestCall, tickCall, runCall, runList, runState}
-use Rattle.rules.specs.Play.{task, server, table, stateAt}
+use Rattle.rules.specs.Play.{task, server, table, codeOf, stateAt}
 
 abbrev base : State
 base = freshState (table (task 3 6 2 6 ∷ []) (server 2 0 5 2))
@@ -26,6 +28,7 @@ atClock c = record {
   table = base .table;
   progress = record { left = base .progress .left; server = base .progress .server; clock = c };
   queue = base .queue;
+  returns = freshReturns;
 }
 
 abbrev waiting : ℕ → State
@@ -33,6 +36,29 @@ waiting n = record {
   table = base .table;
   progress = base .progress;
   queue = record { requests = replicate maxWaiting (record { id = 7; work = 4; arrival = 0 }); n = n };
+  returns = freshReturns;
+}
+
+-- a count above 32, which kind 4 alone refuses
+abbrev oddly : ℕ → State
+oddly kind = record {
+  table = table (task 3 6 2 6 ∷ []) (server kind 0 5 2);
+  progress = base .progress;
+  queue = base .queue;
+  returns = record { stretches = replicate maxHeld (record { start = 9; length = 0 }); n = 40 };
+}
+
+-- kind 4 at a clock, with ticks 0, 2, .. 62 held apart and a request waiting
+abbrev apart : ℕ → ℕ → List Stretch
+apart zero a = []
+apart (suc n) a = record { start = a; length = 1 } ∷ apart n (a + 2)
+
+abbrev full : ℕ → State
+full c = record {
+  table = table (task 3 6 2 6 ∷ []) (server 4 0 80 40);
+  progress = record { left = base .progress .left; server = record { budget = 8; sporadic = base .progress .server .sporadic }; clock = c };
+  queue = waiting 1 .queue;
+  returns = record { stretches = apart maxHeld 0; n = maxHeld };
 }
 
 abbrev refusalOf : TickAnswer → ℕ
@@ -73,6 +99,12 @@ pub record CallCases : Type 0 where
   pub entry-drops :
       runList (requestCall (runState 3 tight) 7 4 .state) 6 (replicate 6 (entry 5 5 5)) ≡
       entry 2 7 0 ∷ entry 2 7 0 ∷ entry 2 7 0 ∷ entry 2 7 0 ∷ entry 1 0 0 ∷ entry 0 0 1 ∷ []
+  -- 3/13: the returns of the other kinds are not looked at, and stay
+  pub odd-returns : map (λ k. refusalOf (tickCall (oddly k) .answer)) (1 ∷ 2 ∷ 3 ∷ 4 ∷ []) ≡ 0 ∷ 0 ∷ 0 ∷ 11 ∷ []
+  pub odd-stay : tickCall (oddly 2) .state .returns ≡ oddly 2 .returns
+  pub odd-asked : requestCall (oddly 2) 7 4 .state .returns ≡ oddly 2 .returns
+  -- 3/13: 32 held; 63 goes on the last, 64 and 79 would open another, and at 80 tick 0 has come back before the choice
+  pub full-returns : map (λ c. codeOf (tickCall (full c) .answer)) (63 ∷ 64 ∷ 79 ∷ 80 ∷ []) ≡ 9 ∷ 0 ∷ 0 ∷ 9 ∷ []
 
 pub call-cases : CallCases
 unfolding overlay
@@ -100,4 +132,8 @@ call-cases = record {
   run-refused-state = refl;
   run-is-ticks = refl;
   entry-drops = refl;
+  odd-returns = refl;
+  odd-stay = refl;
+  odd-asked = refl;
+  full-returns = refl;
 }

@@ -4,6 +4,7 @@ use mathlib.Core.Path.{_≡_, refl}
 use mathlib.Core.Bool.{true, false}
 use mathlib.Core.List.{List, [], _∷_, map}
 use Rattle.lists.specs.Lists.{overlay}
+use Rattle.server.specs.Whole.{whole}
 use Rattle.table.specs.Model.{modelOf}
 use Rattle.table.specs.State.{setUpCall}
 use Rattle.rules.specs.declared.TickAnswer.{TickAnswer}
@@ -61,7 +62,7 @@ pub record TickCases : Type 0 where
       record {
         lefts = 0 ∷ 1 ∷ [];
         queue = record { id = 8; work = 2; arrival = 3 } ∷ record { id = 9; work = 1; arrival = 6 } ∷ [];
-        server = record { budget = 0; sporadic = record { tr = 6; begin = 2; nr = 11; served = true; late = false; above = false; busy = true } };
+        server = whole (record { budget = 0; sporadic = record { tr = 6; begin = 2; nr = 11; served = true; late = false; above = false; busy = true } }) [];
         clock = 8;
       }
   -- the same under polling: the sporadic fields stay 0
@@ -69,7 +70,7 @@ pub record TickCases : Type 0 where
       record {
         lefts = 0 ∷ 0 ∷ [];
         queue = record { id = 8; work = 4; arrival = 3 } ∷ record { id = 9; work = 1; arrival = 6 } ∷ [];
-        server = record { budget = 1; sporadic = record { tr = 0; begin = 0; nr = 0; served = false; late = false; above = false; busy = false } };
+        server = whole (record { budget = 1; sporadic = record { tr = 0; begin = 0; nr = 0; served = false; late = false; above = false; busy = false } }) [];
         clock = 7;
       }
 

@@ -1,8 +1,8 @@
 -- What the calls keep: a model written over a state reads back, a fit state's accepted calls leave it fit, and so every state
 -- that calls reach from the fresh one of a table that passes is fit.
-use Prim.Native.Nat.{ℕ, zero, suc, _+_, _≤_, _<_}
+use Prim.Native.Nat.{ℕ, zero, suc, _+_, _-_, _≤_, _<_}
 use native.Mathlib.Omega.{arith}
-use mathlib.Core.Path.{_≡_, refl, sym, subst, _∙_}
+use mathlib.Core.Path.{_≡_, refl, ap, sym, subst, _∙_}
 use mathlib.Core.Bool.{Bool, true, false, cond}
 use mathlib.Core.List.{List, [], _∷_}
 use lib.ListN.{length, take, replicate, length-take, length-drop, length-append, length-set}
@@ -10,12 +10,18 @@ use lib.Dec.{leb, ltb}
 use lib.Seq.{length-take-le}
 use borrow.Author.Tests.{leb-true, le-leb, ltb-true}
 use Rattle.lists.specs.Lists.{count, zipWith, all, allWith, overlay, take-overlay, zip-length}
-use Rattle.lists.specs.Tests.{never, and-join}
+use Rattle.lists.specs.Tests.{never, and-join, either}
 use Rattle.server.specs.Limits.{lastClock}
 use Rattle.server.specs.declared.Server.{Server}
-use Rattle.server.specs.Kind.{Kind, background, polling, deferrable, sporadic, kindOf}
+use Rattle.server.specs.Kind.{Kind, background, polling, deferrable, sporadic, returning, kindOf}
+use Rattle.server.specs.declared.Stretch.{Stretch}
+use Rattle.server.specs.declared.Returns.{Returns}
+use Rattle.server.specs.Returns.{maxHeld, freshReturns, heldOf, writtenReturns}
+use Rattle.server.specs.Whole.{whole, wholeFits}
+use Rattle.server.specs.Written.{same-reread, written-same}
+use Rattle.server.specs.Held.{holding-fits, fresh-holding}
 use Rattle.server.specs.Server.{freshServer}
-use Rattle.server.specs.Within.{Within, within-later, replenish-within, consume-within}
+use Rattle.server.specs.Within.{within-later}
 use Rattle.queue.specs.declared.Request.{Request}
 use Rattle.queue.specs.Queue.{maxWaiting, workFits, requestsFit}
 use Rattle.queue.specs.Laws.{fit-later, fit-presented}
@@ -30,29 +36,39 @@ use Rattle.table.specs.Model.{Model, taskSetOf, modelOf, written}
 use Rattle.table.specs.State.{freshState, tableCheck, leftFits, fit}
 use Rattle.table.specs.Facts.{TableFacts, table-facts, StateFacts, fit-facts, facts-fit}
 use Rattle.rules.specs.declared.Turn.{Turn}
-use Rattle.rules.specs.Tick.{expires, opened, workedTasks, turnAt, leftsAt, serverAt, seenAt, kindAt, busyAt}
+use Rattle.rules.specs.Tick.{expires, opened, workedTasks, turnAt, leftsAt, seenAt, kindAt, busyAt}
 use Rattle.rules.specs.Calls.{unless, asked, requestCheck, requestCall, clockAllows, ticked, stateAfter, tickCall, tickBy, entryOf, runState, runCall}
+use Rattle.rules.specs.ServerKept.{Keeps, server-keeps, held-few, served-eligible}
 use Rattle.rules.specs.Fitness.{opened-fit, worked-fit, queue-fit, queue-shorter}
 
 -- ---- a model written over a state reads back as itself
-pub reads-written : (s : State) (m : Model) → length (m .lefts) ≡ s .table .n → modelOf (written s m) ≡ m
-reads-written s m e = rw (take-overlay (s .table .n) (m .lefts) (s .progress .left) e, take-overlay (length (m .queue)) (m .queue) (s .queue .requests) refl)
+-- the stretches do, but for a count above 32, which kind 4 refuses: there they must be those that stand in the array
+abbrev pub Rereads : State → Model → Type 0
+Rereads s m = heldOf (writtenReturns (s .returns) (m .server .returns)) ≡ m .server .returns
+
+pub reads-written : (s : State) (m : Model) → length (m .lefts) ≡ s .table .n → Rereads s m → modelOf (written s m) ≡ m
+reads-written s m e r =
+    rw (take-overlay (s .table .n) (m .lefts) (s .progress .left) e, take-overlay (length (m .queue)) (m .queue) (s .queue .requests) refl)
+    (ap (λ (us : List Stretch). record { lefts = m .lefts; queue = m .queue; server = whole (m .server .part) us; clock = m .clock }) r)
 
 -- ---- the arrays of a struct have their declared lengths
 pub record Sized (s : State) : Type 0 where
   pub tasks : length (s .table .tasks) ≡ maxTasks
   pub left : length (s .progress .left) ≡ maxTasks
   pub requests : length (s .queue .requests) ≡ maxWaiting
+  pub stretches : length (s .returns .stretches) ≡ maxHeld
 
 overlay-length : {A : Type 0} (new old : List A) → length new ≤ length old → length (overlay new old) ≡ length old
 unfolding overlay
 overlay-length new old h = simp (length-append, length-drop) (omega arith)
 
-written-sized : (s : State) (m : Model) → Sized s → length (m .lefts) ≤ maxTasks → length (m .queue) ≤ maxWaiting → Sized (written s m)
-written-sized s m z a b = record {
+written-sized : (s : State) (m : Model) → Sized s → length (m .lefts) ≤ maxTasks → length (m .queue) ≤ maxWaiting → length (m .server .returns) ≤ maxHeld → Sized (written s m)
+written-sized s m z a b d = record {
   tasks = z .tasks;
   left = overlay-length (m .lefts) (s .progress .left) (rw (z .left) a) ∙ z .left;
   requests = overlay-length (m .queue) (s .queue .requests) (rw (z .requests) b) ∙ z .requests;
+  stretches = either (λ (r : Returns). length (r .stretches) ≡ maxHeld) (leb (s .returns .n) maxHeld)
+      (overlay-length (m .server .returns) (s .returns .stretches) (rw (z .stretches) d) ∙ z .stretches) (z .stretches);
 }
 
 -- ---- how long the lists of a model are
@@ -74,7 +90,7 @@ waiting-length n rs = omega (arith, length-take n rs)
 
 -- ---- a fit state's tick leaves it fit
 pub tick-fit : (s : State) → Sized s → fit s ≡ true → clockAllows s 1 ≡ true → (fit (stateAfter s) ≡ true) × Sized (stateAfter s)
-tick-fit s z e c = (facts-fit (stateAfter s) after, written-sized s (ticked s .next) z (omega (arith, len, limits .count)) (omega (arith, short, h .waiting)))
+tick-fit s z e c = (facts-fit (stateAfter s) after, written-sized s (ticked s .next) z (omega (arith, len, limits .count)) (omega (arith, short, h .waiting)) (keeps .few))
   where
     h : StateFacts s
     h = fit-facts s e
@@ -85,21 +101,21 @@ tick-fit s z e c = (facts-fit (stateAfter s) after, written-sized s (ticked s .n
     len : length (ticked s .next .lefts) ≡ s .table .n
     len = ticked-length s z (limits .count)
 
-    reads : modelOf (stateAfter s) ≡ ticked s .next
-    reads = reads-written s (ticked s .next) len
-
     early : s .progress .clock + 1 ≤ lastClock
     early = leb-true _ _ c
 
     short : length (ticked s .next .queue) ≤ s .queue .n
     short = omega (arith, queue-shorter (turnAt (taskSetOf (s .table)) (modelOf s)) (modelOf s .queue), waiting-length (s .queue .n) (s .queue .requests))
 
-    kept : Within (s .table .server) (s .progress .clock + 1) (ticked s .next .server)
-    kept =
-        within-later (s .table .server) (s .progress .clock) (ticked s .next .server)
-        (consume-within (kindAt (taskSetOf (s .table))) (s .table .server) (serverAt (taskSetOf (s .table)) (modelOf s)) (seenAt (taskSetOf (s .table)) (modelOf s))
-        (limits .server .period) (h .clock)
-        (replenish-within (kindAt (taskSetOf (s .table))) (s .table .server) (s .progress .server) (s .progress .clock) (busyAt (taskSetOf (s .table)) (modelOf s)) (h .server)))
+    keeps : Keeps (kindAt (taskSetOf (s .table))) (s .table .server) (s .returns) (s .progress .clock) (ticked s .next .server)
+    keeps =
+        server-keeps (s .table .server .kind) (s .table .server) (s .progress .server) (s .returns) (busyAt (taskSetOf (s .table)) (modelOf s))
+        (seenAt (taskSetOf (s .table)) (modelOf s)) (λ k. omega (arith, limits .server .some k, limits .server .within)) (limits .server .period) (h .clock)
+        (z .stretches) (h .server) (h .returns)
+        (served-eligible (taskSetOf (s .table)) (modelOf s))
+
+    reads : modelOf (stateAfter s) ≡ ticked s .next
+    reads = reads-written s (ticked s .next) len (keeps .reread)
 
     after : StateFacts (stateAfter s)
     after = record {
@@ -110,7 +126,8 @@ tick-fit s z e c = (facts-fit (stateAfter s) after, written-sized s (ticked s .n
           subst (λ (m : Model). allWith leftFits (taskSetOf (s .table) .tasks) (m .lefts) ≡ true) (sym reads)
           (worked-fit (turnAt (taskSetOf (s .table)) (modelOf s)) (taskSetOf (s .table) .tasks) (leftsAt (taskSetOf (s .table)) (modelOf s))
           (opened-fit (s .progress .clock) (taskSetOf (s .table) .tasks) (modelOf s .lefts) (h .lefts)));
-      server = kept;
+      server = within-later (s .table .server) (s .progress .clock) (ticked s .next .server .part) (keeps .part);
+      returns = keeps .fits;
       requests =
           subst (λ (m : Model). requestsFit (s .progress .clock + 1) (m .queue) ≡ true) (sym reads)
           (queue-fit (turnAt (taskSetOf (s .table)) (modelOf s)) (s .progress .clock + 1) (modelOf s .queue)
@@ -136,6 +153,10 @@ tick-few s =
     )
 
 -- ---- an accepted request leaves it fit
+returns-same : (k : Kind) (s : Server) (clock b : ℕ) (r : Returns) → length (r .stretches) ≡ maxHeld → wholeFits k s clock b r ≡ true →
+    wholeFits k s clock b (writtenReturns r (heldOf r)) ≡ true
+returns-same k s clock b r z e = subst (λ (q : Returns). wholeFits k s clock b q ≡ true) (sym (written-same r z)) e
+
 -- what an accepted request has passed
 pub record Accepted (s : State) (work : ℕ) : Type 0 where
   pub fits : fit s ≡ true
@@ -156,7 +177,7 @@ pub request-fit : (s : State) (id work : ℕ) → Sized s → Accepted s work �
     (fit (written s (asked id work (modelOf s))) ≡ true) × Sized (written s (asked id work (modelOf s)))
 request-fit s id work z ok = (
   facts-fit (written s (asked id work (modelOf s))) after,
-  written-sized s (asked id work (modelOf s)) z (omega (arith, len, limits .count)) (omega (arith, more, ok .room)),
+  written-sized s (asked id work (modelOf s)) z (omega (arith, len, limits .count)) (omega (arith, more, ok .room)) (held-few (s .returns) (z .stretches)),
 )
   where
     h : StateFacts s
@@ -172,7 +193,7 @@ request-fit s id work z ok = (
     more = simp length-append (omega (arith, waiting-length (s .queue .n) (s .queue .requests)))
 
     reads : modelOf (written s (asked id work (modelOf s))) ≡ asked id work (modelOf s)
-    reads = reads-written s (asked id work (modelOf s)) len
+    reads = reads-written s (asked id work (modelOf s)) len (same-reread (s .returns))
 
     after : StateFacts (written s (asked id work (modelOf s)))
     after = record {
@@ -181,6 +202,7 @@ request-fit s id work z ok = (
       clock = h .clock;
       lefts = subst (λ (m : Model). allWith leftFits (taskSetOf (s .table) .tasks) (m .lefts) ≡ true) (sym reads) (h .lefts);
       server = h .server;
+      returns = returns-same (kindOf (s .table .server .kind)) (s .table .server) (s .progress .clock) (s .progress .server .budget) (s .returns) (z .stretches) (h .returns);
       requests =
           subst (λ (m : Model). requestsFit (s .progress .clock) (m .queue) ≡ true) (sym reads)
           (fit-presented (s .progress .clock) id work (modelOf s .queue) (ok .allowed) (h .requests));
@@ -220,6 +242,14 @@ fresh-budget background s = omega arith
 fresh-budget polling s = omega arith
 fresh-budget deferrable s = omega arith
 fresh-budget sporadic s = omega arith
+fresh-budget returning s = omega arith
+
+fresh-returns : (k : Kind) (s : Server) → wholeFits k s 0 (freshServer k s .budget) freshReturns ≡ true
+fresh-returns background s = refl
+fresh-returns polling s = refl
+fresh-returns deferrable s = refl
+fresh-returns sporadic s = refl
+fresh-returns returning s = holding-fits s 0 (freshServer returning s) freshReturns (omega arith) (fresh-holding s)
 
 -- the fresh state of a table that passes
 pub fresh-fit : (t : Table) → passed (tableCheck t) ≡ true → fit (freshState t) ≡ true
@@ -234,6 +264,7 @@ fresh-fit t e =
         times = record { tr = omega arith; begin = omega arith; nr = omega arith };
       };
       requests = refl;
+      returns = fresh-returns (kindOf (t .server .kind)) (t .server);
     })
 
 request-kept : (s : State) (id work : ℕ) → Kept s → Kept (requestCall s id work .state)
@@ -267,7 +298,7 @@ run-kept s k lent h = go (fit s) (h .0) (clockAllows s k) refl (leb k lent)
 
 pub reached-fit : (t : Table) → length (t .tasks) ≡ maxTasks → passed (tableCheck t) ≡ true → (s : State) → Reached t s → (fit s ≡ true) × Sized s
 unfolding Kept
-reached-fit t z e s started = (fresh-fit t e, record { tasks = z; left = refl; requests = refl })
+reached-fit t z e s started = (fresh-fit t e, record { tasks = z; left = refl; requests = refl; stretches = refl })
 reached-fit t z e s (asks {s = s₀} id work r) = request-kept s₀ id work (reached-fit t z e s₀ r)
 reached-fit t z e s (ticks {s = s₀} r) = tick-kept s₀ (reached-fit t z e s₀ r)
 reached-fit t z e s (runs {s = s₀} k lent r) = run-kept s₀ k lent (reached-fit t z e s₀ r)

@@ -57,6 +57,11 @@ pub record MarkedCases : Type 0 where
   pub polling-responds : responses (played row (one 1) once 13) ≡ 9 ∷ []
   pub deferrable-responds : responses (played row (one 2) once 8) ≡ 4 ∷ []
   pub sporadic-responds : responses (played row (one 3) once 11) ≡ 7 ∷ []
+  -- 3/13: served at 3, 4 and, when these come back, at 8, 9; work of 5 from tick 1 with P = 4 at 1, 2, 5, 6, 9 (deferrable 1, 2, 4, 5, 8)
+  pub returning-responds : responses (played row (one 4) once 11) ≡ 7 ∷ []
+  pub returning-by-tick : responses (played row (server 4 0 4 2) (at 1 7 5 ∷ []) 11) ≡ 9 ∷ []
+  pub deferrable-by-period : responses (played row (server 2 0 4 2) (at 1 7 5 ∷ []) 11) ≡ 8 ∷ []
+  pub returning-bound : bound row (one 4) ≡ 4 ∷ []
   -- "Row bounds: polling 4, deferrable 6, sporadic 4 (three)."
   pub polling-bound : bound row (one 1) ≡ 4 ∷ []
   pub deferrable-bound : bound row (one 2) ≡ 6 ∷ []
@@ -82,6 +87,10 @@ marked-cases = record {
   polling-responds = refl;
   deferrable-responds = refl;
   sporadic-responds = refl;
+  returning-responds = refl;
+  returning-by-tick = refl;
+  deferrable-by-period = refl;
+  returning-bound = refl;
   polling-bound = refl;
   deferrable-bound = refl;
   sporadic-bound = refl;

@@ -8,10 +8,10 @@ use lib.ListN.{take, getD, set}
 use lib.Dec.{ltb}
 use Rattle.lists.specs.Lists.{any, count, zipWith}
 use Rattle.lists.specs.Time.{due}
-use Rattle.server.specs.declared.ServerState.{ServerState}
 use Rattle.server.specs.declared.Seen.{Seen}
 use Rattle.server.specs.Kind.{Kind, kindOf}
-use Rattle.server.specs.Server.{replenish, eligible, servesIdle, consume}
+use Rattle.server.specs.Server.{servesIdle}
+use Rattle.server.specs.Whole.{Whole, replenishWhole, eligibleWhole, consumeWhole}
 use Rattle.queue.specs.declared.Request.{Request}
 use Rattle.queue.specs.declared.Finish.{Finish}
 use Rattle.queue.specs.Queue.{waits, headId, served, finished}
@@ -59,11 +59,12 @@ abbrev pub idleTurn : Kind → Bool → Turn
 idleTurn k waiting = cond (servesIdle k && waiting) Turn.Spare Turn.Nobody
 
 -- Step 4: "the first open row above; else the head request if the queue isn't empty and b > 0; else the first open row below; else ..".
--- `above`: a task above the server is open; `busy`: any task is; `first`: the first open task
-abbrev pub choose : Kind → Bool → Bool → Bool → ServerState → ℕ → Turn
-choose k above busy waiting x first =
+-- `above`: a task above the server is open; `busy`: any task is; `may`: the server is
+-- eligible; `first`: the first open task
+abbrev pub choose : Kind → Bool → Bool → Bool → Bool → ℕ → Turn
+choose k above busy waiting may first =
     cond above (Turn.Task first)
-    (cond (eligible waiting x) Turn.Budget
+    (cond may Turn.Budget
     (cond busy (Turn.Task first)
     (idleTurn k waiting)))
 
@@ -117,12 +118,16 @@ abbrev pub busyAt : TaskSet → Model → Bool
 busyAt p m = anyOpen (leftsAt p m)
 
 -- the server after step 3
-abbrev pub serverAt : TaskSet → Model → ServerState
-serverAt p m = replenish (kindAt p) (p .server) (m .server) (m .clock) (busyAt p m)
+abbrev pub serverAt : TaskSet → Model → Whole
+serverAt p m = replenishWhole (kindAt p) (p .server) (m .server) (m .clock) (busyAt p m)
+
+-- its eligibility
+abbrev pub mayAt : TaskSet → Model → Bool
+mayAt p m = eligibleWhole (kindAt p) (m .clock) (waits (m .queue)) (serverAt p m)
 
 -- step 4
 abbrev pub turnAt : TaskSet → Model → Turn
-turnAt p m = choose (kindAt p) (aboveAt p m) (busyAt p m) (waits (m .queue)) (serverAt p m) (firstOpen (leftsAt p m))
+turnAt p m = choose (kindAt p) (aboveAt p m) (busyAt p m) (waits (m .queue)) (mayAt p m) (firstOpen (leftsAt p m))
 
 -- what step 5 shows the server
 abbrev pub seenBy : ℕ → List Request → Turn → Bool → Bool → Seen
@@ -154,7 +159,7 @@ tick p m = record {
   next = record {
     lefts = workedTasks (turnAt p m) (leftsAt p m);
     queue = workedQueue (turnAt p m) (m .queue);
-    server = consume (kindAt p) (p .server) (serverAt p m) (seenAt p m);
+    server = consumeWhole (kindAt p) (p .server) (serverAt p m) (seenAt p m);
     clock = m .clock + 1;
   };
 }

@@ -14,10 +14,17 @@ use Rattle.lists.specs.Lists.{overlay, take-overlay, overlay-take, zip-length}
 use Rattle.lists.specs.Tests.{never, and-split}
 use Rattle.server.specs.declared.ServerState.{ServerState}
 use Rattle.server.specs.declared.Seen.{Seen}
-use Rattle.server.specs.Kind.{Kind, kindOf}
-use Rattle.server.specs.Server.{replenish, eligible, servesIdle}
-use Rattle.server.specs.Consumed.{consumed}
-use Rattle.server.specs.Within.{Within, replenish-within, consumed-is-consume}
+use Rattle.server.specs.Kind.{Kind, background, polling, deferrable, sporadic, returning, kindOf}
+use Rattle.server.specs.declared.Returns.{Returns}
+use Rattle.server.specs.declared.Server.{Server}
+use Rattle.server.specs.Server.{servesIdle}
+use Rattle.server.specs.Returns.{maxHeld}
+use Rattle.server.specs.Whole.{roomFor}
+use Rattle.server.specs.Advanced.{delayBy, edgeFor, replenishedBy, advanced, moves}
+use Rattle.server.specs.Written.{Delays, delays, edge-room, replenished-is, advance-is, unmoved}
+use Rattle.server.specs.declared.Edge.{Edge}
+use Rattle.server.specs.Consumed.{kept, consumed}
+use Rattle.server.specs.Within.{Timed, part-timed, consumed-is-consume}
 use Rattle.queue.specs.declared.Request.{Request}
 use Rattle.queue.specs.declared.Queue.{Queue}
 use Rattle.queue.specs.declared.Finish.{Finish}
@@ -33,17 +40,18 @@ use Rattle.rules.specs.declared.Turn.{Turn}
 use Rattle.rules.specs.declared.Occupant.{Occupant}
 use Rattle.rules.specs.declared.Entry.{Entry}
 use Rattle.rules.specs.declared.TickAnswer.{TickAnswer}
-use Rattle.rules.specs.Tick.{opened, anyOpen, firstOpen, choose, workedTasks, workedQueue, occupantOf, finishOf, seenBy, turnAt, aboveAt, busyAt, serverAt, seenAt}
+use Rattle.rules.specs.Tick.{opened, anyOpen, firstOpen, choose, byBudget, workedTasks, workedQueue, occupantOf, finishOf, seenBy, turnAt, aboveAt, busyAt, serverAt, mayAt, seenAt}
 use Rattle.rules.specs.Calls.{ticked, stateAfter, ranBy, entryBy, entryOf}
+use Rattle.rules.specs.ServerKept.{served-eligible}
 use Rattle.scheduler.specs.declared.opening.Opened.{Opened}
 use Rattle.scheduler.specs.declared.work.Head.{Head}
 use Rattle.scheduler.specs.declared.replenishment.Started.{Started}
 use Rattle.scheduler.specs.declared.decision.Decision.{Decision}
-use Rattle.scheduler.specs.Decision.{calmOf, decidedBy, occupantFor, servesAt, recordedBy}
+use Rattle.scheduler.specs.Decision.{calmOf, edgeAt, holdsAt, movesAt, advancedAt, decidedBy, occupantFor, servesAt, recordedBy}
 use Rattle.scheduler.specs.Opening.{CalmFor, calmAfter, openedBy, leftsBy, startedBy}
 use Rattle.scheduler.specs.Parts.{stateOf, mayRun}
 use Rattle.scheduler.specs.Service.{headWork, shown, givenAfter}
-use Rattle.scheduler.specs.Work.{ends, headOf, toRequest, seenOf}
+use Rattle.scheduler.specs.Work.{ends, headOf, toRequest, IsFirst, seenOf}
 use Rattle.scheduler.specs.Laws.{may-fit}
 use Rattle.scheduler.proofs.Due.{calm-on}
 use Rattle.scheduler.proofs.Given.{less-length, counted, counted-within, one-more}
@@ -61,10 +69,10 @@ module _ (t : Table) (p : Progress) (few : t .n ≤ maxTasks) (tasks : length (t
       let b : length (take (t .n) (p .left)) ≡ t .n = length-take-le _ _ (rw left few) in
       zip-length (opened (p .clock)) (take (t .n) (t .tasks)) (take (t .n) (p .left)) (a ∙ sym b) ∙ b
 
-  pub start-is : (c : ℕ) (o : Opened) (first : ℕ) (x : ServerState) → o ≡ openedBy (p .clock) (t .tasks) (p .left) (t .n) (calmAfter (p .clock) (t .tasks) (t .n) c) →
-      first ≡ firstOpen (take (t .n) (o .left)) → x ≡ replenish (kindOf (t .server .kind)) (t .server) (p .server) (p .clock) (ltb first (t .n)) →
-      record { left = o .left; drops = o .drops; calm = o .calm; first = first; server = x } ≡ startedBy t p c
-  start-is c o first x eo ef ex =
+  pub start-is : (back : Bool) (c : ℕ) (o : Opened) (first : ℕ) (x : ServerState) → o ≡ openedBy (p .clock) (t .tasks) (p .left) (t .n) (calmAfter (p .clock) (t .tasks) (t .n) c) →
+      first ≡ firstOpen (take (t .n) (o .left)) → x ≡ replenishedBy (t .server) (p .server) (p .clock) (ltb first (t .n)) back →
+      record { left = o .left; drops = o .drops; calm = o .calm; first = first; server = x } ≡ startedBy t p back c
+  start-is back c o first x eo ef ex =
       let r : take (t .n) (overlay (leftsBy t p) (p .left)) ≡ leftsBy t p = take-overlay (t .n) (leftsBy t p) (p .left) lefts-length in
       let f : first ≡ firstOpen (leftsBy t p) = ef ∙ ap (λ (o : Opened). firstOpen (take (t .n) (o .left))) eo ∙ ap firstOpen r in
       let b : ltb first (t .n) ≡ anyOpen (leftsBy t p) = ap (λ (i : ℕ). ltb i (t .n)) f ∙ ap (λ (n : ℕ). ltb (firstOpen (leftsBy t p)) n) (sym lefts-length) ∙ first-any (leftsBy t p) in
@@ -80,10 +88,20 @@ worked-overlay Turn.Budget ls old h = refl
 worked-overlay Turn.Spare ls old h = refl
 
 -- a task's turn is the first open task's
-choose-task : (k : Kind) (above busy waiting : Bool) (x : ServerState) (first n : ℕ) → (above ≡ true → first < n) → (busy ≡ true → first < n) →
-    (i : ℕ) → choose k above busy waiting x first ≡ Turn.Task i → i < n
-choose-task k true busy waiting x first n a b i e = let s : first ≡ i = cc in omega (arith, a refl)
-choose-task k false busy waiting x first n a b i e = go (eligible waiting x) busy b (servesIdle k && waiting) e
+pub choose-first : (k : Kind) (above busy waiting may : Bool) (first : ℕ) (turn : Turn) → turn ≡ choose k above busy waiting may first → IsFirst turn first
+choose-first k true busy waiting may first turn e i f = cc
+choose-first k false busy waiting may first turn e i f = go may busy (servesIdle k && waiting) (sym f ∙ e)
+  where
+    go : (el bu sp : Bool) → Turn.Task i ≡ cond el Turn.Budget (cond bu (Turn.Task first) (cond sp Turn.Spare Turn.Nobody)) → i ≡ first
+    go true bu sp e = let z : _≡_ {A = ℕ} 0 1 = cc in absurd (omega arith)
+    go false true sp e = cc
+    go false false true e = let z : _≡_ {A = ℕ} 0 1 = cc in absurd (omega arith)
+    go false false false e = let z : _≡_ {A = ℕ} 0 1 = cc in absurd (omega arith)
+
+choose-task : (k : Kind) (above busy waiting may : Bool) (first n : ℕ) → (above ≡ true → first < n) → (busy ≡ true → first < n) →
+    (i : ℕ) → choose k above busy waiting may first ≡ Turn.Task i → i < n
+choose-task k true busy waiting may first n a b i e = let s : first ≡ i = cc in omega (arith, a refl)
+choose-task k false busy waiting may first n a b i e = go may busy b (servesIdle k && waiting) e
   where
     go : (el bu : Bool) → (bu ≡ true → first < n) → (sp : Bool) → cond el Turn.Budget (cond bu (Turn.Task first) (cond sp Turn.Spare Turn.Nobody)) ≡ Turn.Task i → i < n
     go true bu b sp e = let z : _≡_ {A = ℕ} 0 1 = cc in absurd (omega arith)
@@ -92,11 +110,38 @@ choose-task k false busy waiting x first n a b i e = go (eligible waiting x) bus
     go false false b false e = let z : _≡_ {A = ℕ} 0 1 = cc in absurd (omega arith)
 
 -- ---- what the server is shown
-seen-is : (t : ℕ) (q : List Request) (turn : Turn) (above busy : Bool) → seenOf t (headOf q) turn above busy ≡ seenBy t q turn above busy
+seen-is : (t : ℕ) (q : List Request) (turn : Turn) (above busy : Bool) → seenOf t (headOf q .waits) (headOf q .last) turn above busy ≡ seenBy t q turn above busy
 seen-is t q Turn.Nobody above busy = refl
 seen-is t q (Turn.Task i) above busy = refl
 seen-is t q Turn.Budget above busy = refl
 seen-is t q Turn.Spare above busy = refl
+
+-- ---- a request that waits where there is no room to hold its tick: only kind 4 meets that, and kind 4 looks at no request then
+and-true : (a : Bool) → a && true ≡ a
+and-true true = refl
+and-true false = refl
+
+and-apart : (a b c : Bool) → (a && b) && c ≡ b && (a && c)
+and-apart true true c = refl
+and-apart true false c = refl
+and-apart false true c = refl
+and-apart false false c = refl
+
+module _ (s : Server) (t : ℕ) (r : Returns) (w : Bool) where
+  unlooked : (k : Kind) → servesIdle k && (w && edgeFor k s t r .room) ≡ servesIdle k && w
+  unlooked background = and-true w
+  unlooked polling = refl
+  unlooked deferrable = refl
+  unlooked sporadic = refl
+  unlooked returning = refl
+
+  unshown : (k : Kind) (x : ServerState) (u : ℕ) (last : Bool) (turn : Turn) (above busy : Bool) →
+      kept k s x (seenOf u (w && edgeFor k s t r .room) last turn above busy) ≡ kept k s x (seenOf u w last turn above busy)
+  unshown background x u last turn above busy = refl
+  unshown polling x u last turn above busy = rw (and-true w)
+  unshown deferrable x u last turn above busy = refl
+  unshown sporadic x u last turn above busy = refl
+  unshown returning x u last turn above busy = refl
 
 -- ---- a state that may run one tick keeps its limits
 pub may-facts : (s : State) → mayRun 1 s ≡ true → StateFacts s
@@ -108,10 +153,15 @@ may-table s e = table-facts (s .table) (may-facts s e .passes)
 pub may-clock : (s : State) → mayRun 1 s ≡ true → s .progress .clock + 1 ≤ lastClock
 may-clock s e = leb-true _ _ (may-fit s e .1)
 
+may-delay : (s : State) → mayRun 1 s ≡ true → Delays (kindOf (s .table .server .kind)) (s .table .server)
+may-delay s e =
+    let limits = may-table s e .server in
+    delays (s .table .server .kind) (s .table .server) (λ h. omega (arith, limits .some h, limits .within))
+
 -- ---- the whole tick
-module _ (t : Table) (p : Progress) (q : Queue) (may : mayRun 1 (stateOf t p q) ≡ true) (tasks : length (t .tasks) ≡ maxTasks) (left : length (p .left) ≡ maxTasks) where
+module _ (t : Table) (p : Progress) (q : Queue) (r : Returns) (may : mayRun 1 (stateOf t p q r) ≡ true) (tasks : length (t .tasks) ≡ maxTasks) (left : length (p .left) ≡ maxTasks) where
   abbrev s : State
-  s = stateOf t p q
+  s = stateOf t p q r
 
   limits : TableFacts t
   limits = may-table s may
@@ -130,31 +180,74 @@ module _ (t : Table) (p : Progress) (q : Queue) (may : mayRun 1 (stateOf t p q) 
 
   within : (i : ℕ) → turnAt (taskSetOf t) (modelOf s) ≡ Turn.Task i → i < length (leftsBy t p)
   within i e =
-      choose-task (kindOf (t .server .kind)) (aboveAt (taskSetOf t) (modelOf s)) (busyAt (taskSetOf t) (modelOf s)) (waits (waitingOf q)) (serverAt (taskSetOf t) (modelOf s)) (firstOpen (leftsBy t p)) (length (leftsBy t p))
+      choose-task (kindOf (t .server .kind)) (aboveAt (taskSetOf t) (modelOf s)) (busyAt (taskSetOf t) (modelOf s)) (waits (waitingOf q)) (mayAt (taskSetOf t) (modelOf s)) (firstOpen (leftsBy t p)) (length (leftsBy t p))
       (λ a. let b : firstOpen (leftsBy t p) < t .server .place = ltb-true _ _ (above-is ∙ a) in omega (arith, long, limits .server .place))
       (λ a. let b : firstOpen (leftsBy t p) < t .n = ltb-true _ _ (busy-is ∙ a) in omega (arith, long))
       i e
 
-  kept : Within (t .server) (p .clock) (serverAt (taskSetOf t) (modelOf s))
-  kept = replenish-within (kindOf (t .server .kind)) (t .server) (p .server) (p .clock) (busyAt (taskSetOf t) (modelOf s)) (facts .server)
+  timed : Timed (p .clock) (serverAt (taskSetOf t) (modelOf s) .part .sporadic)
+  timed = part-timed (kindOf (t .server .kind)) (t .server) (modelOf s .server) (p .clock) (busyAt (taskSetOf t) (modelOf s)) (facts .server)
 
-  consumed-is : consumed (t .server) (serverAt (taskSetOf t) (modelOf s)) (seenAt (taskSetOf t) (modelOf s)) ≡ stateAfter s .progress .server
+  consumed-is : consumed (t .server) (serverAt (taskSetOf t) (modelOf s) .part) (seenAt (taskSetOf t) (modelOf s)) ≡ stateAfter s .progress .server
   consumed-is =
-      consumed-is-consume (t .server) (serverAt (taskSetOf t) (modelOf s)) (seenAt (taskSetOf t) (modelOf s)) (limits .server .period) (facts .clock) (kept .times)
+      consumed-is-consume (t .server) (serverAt (taskSetOf t) (modelOf s) .part) (seenAt (taskSetOf t) (modelOf s)) (limits .server .period) (facts .clock) timed
 
-  pub decide-is : (c : ℕ) (st : Started) (h : Head) (turn : Turn) (l : List ℕ) (e : Seen) (x : ServerState) →
-      st ≡ startedBy t p c → h ≡ headOf (waitingOf q) →
-      turn ≡ choose (kindOf (t .server .kind)) (ltb (st .first) (t .server .place)) (ltb (st .first) (t .n)) (h .waits) (st .server) (st .first) →
+  -- step 3 of the server, and its eligibility, by the edge of the returns
+  server-is : startedBy t p (edgeAt s .back) 0 .server ≡ serverAt (taskSetOf t) (modelOf s) .part
+  server-is = replenished-is (kindOf (t .server .kind)) (t .server) (p .clock) (busyAt (taskSetOf t) (modelOf s)) (p .server) r (facts .returns) (may-delay s may)
+
+  eligible-is : (waits (waitingOf q) && edgeAt s .room) && ltb 0 (serverAt (taskSetOf t) (modelOf s) .part .budget) ≡ mayAt (taskSetOf t) (modelOf s)
+  eligible-is =
+      and-apart (waits (waitingOf q)) (edgeAt s .room) _
+      ∙ rw (edge-room (kindOf (t .server .kind)) (t .server) (p .clock) (p .server) r (facts .returns) (may-delay s may)) refl
+
+  pub decide-is : (c : ℕ) (st : Started) (w v back : Bool) (turn : Turn) (l : List ℕ) (e : Seen) (x : ServerState) →
+      st ≡ startedBy t p back c → w ≡ headOf (waitingOf q) .waits && edgeAt s .room → v ≡ headOf (waitingOf q) .last → back ≡ edgeAt s .back →
+      turn ≡ choose (kindOf (t .server .kind)) (ltb (st .first) (t .server .place)) (ltb (st .first) (t .n)) w
+      (w && ltb 0 (st .server .budget)) (st .first) →
       l ≡ workedTasks turn (st .left) →
-      e ≡ seenOf (p .clock) h turn (ltb (st .first) (t .server .place)) (ltb (st .first) (t .n)) →
+      e ≡ seenOf (p .clock) w v turn (ltb (st .first) (t .server .place)) (ltb (st .first) (t .n)) →
       x ≡ consumed (t .server) (st .server) e →
-      record { progress = record { left = l; server = x; clock = p .clock + 1 }; turn = turn; drops = st .drops; calm = st .calm } ≡ decidedBy s c
-  decide-is c st h turn l e x es eh et el ee ex =
-      let t1 : turn ≡ turnAt (taskSetOf t) (modelOf s) = et ∙ rw (es, eh, above-is, busy-is) refl in
+      record {
+        progress = record { left = l; server = x; clock = p .clock + 1 };
+        turn = turn;
+        drops = st .drops;
+        calm = st .calm;
+      }
+      ≡ decidedBy s c
+  decide-is c st w v back turn l e x es ew ev eb et el ee ex =
+      let k : Kind = kindOf (t .server .kind) in
+      let b1 : st .server ≡ serverAt (taskSetOf t) (modelOf s) .part = rw (es, eb) server-is in
+      let m1 : w && ltb 0 (st .server .budget) ≡ mayAt (taskSetOf t) (modelOf s) = rw (b1, ew) eligible-is in
+      let i1 : servesIdle k && w ≡ servesIdle k && waits (waitingOf q) = rw ew (unlooked (t .server) (p .clock) r (waits (waitingOf q)) k) in
+      let t1 : turn ≡ turnAt (taskSetOf t) (modelOf s) = et ∙ rw (m1, i1, es, above-is, busy-is) refl in
       let l1 : l ≡ overlay (workedTasks (turnAt (taskSetOf t) (modelOf s)) (leftsBy t p)) (p .left) = el ∙ rw (es, t1) (worked-overlay (turnAt (taskSetOf t) (modelOf s)) (leftsBy t p) (p .left) within) in
-      let e1 : e ≡ seenAt (taskSetOf t) (modelOf s) = ee ∙ rw (es, eh, t1, above-is, busy-is) (seen-is (p .clock) (waitingOf q) (turnAt (taskSetOf t) (modelOf s)) (aboveAt (taskSetOf t) (modelOf s)) (busyAt (taskSetOf t) (modelOf s))) in
-      let x1 : x ≡ stateAfter s .progress .server = ex ∙ rw (es, e1) (consumed-is) in
+      let seen = seenOf (p .clock) (waits (waitingOf q)) (headOf (waitingOf q) .last) (turnAt (taskSetOf t) (modelOf s)) (aboveAt (taskSetOf t) (modelOf s)) (busyAt (taskSetOf t) (modelOf s)) in
+      let e1 : seen ≡ seenAt (taskSetOf t) (modelOf s) = seen-is (p .clock) (waitingOf q) (turnAt (taskSetOf t) (modelOf s)) (aboveAt (taskSetOf t) (modelOf s)) (busyAt (taskSetOf t) (modelOf s)) in
+      let x1 : x ≡ stateAfter s .progress .server = ex ∙ rw (b1, ee, es, ew, ev, t1, above-is, busy-is)
+      (unshown (t .server) (p .clock) r (waits (waitingOf q)) k (serverAt (taskSetOf t) (modelOf s) .part) (p .clock) (headOf (waitingOf q) .last) (turnAt (taskSetOf t) (modelOf s)) (aboveAt (taskSetOf t) (modelOf s)) (busyAt (taskSetOf t) (modelOf s)) ∙ rw e1 consumed-is) in
       rw (x1, l1, t1, es)
+
+-- ---- the returns after a tick: as `advance` gives them, or as they were
+module _ (s : State) (may : mayRun 1 s ≡ true) (held : length (s .returns .stretches) ≡ maxHeld) where
+  pub returns-after : movesAt s ≡ true → advancedAt s ≡ stateAfter s .returns
+  returns-after e =
+      advance-is (kindOf (s .table .server .kind)) (s .table .server) (seenAt (taskSetOf (s .table)) (modelOf s)) (s .progress .server) (s .returns) held (may-facts s may .returns)
+      (may-delay s may) (omega (arith, may-clock s may))
+      (λ q. and-split (roomFor (kindOf (s .table .server .kind)) (s .progress .clock) (serverAt (taskSetOf (s .table)) (modelOf s) .returns)) _
+      (served-eligible (taskSetOf (s .table)) (modelOf s) q) .0) e
+
+  pub returns-stay : movesAt s ≡ false → s .returns ≡ stateAfter s .returns
+  returns-stay e =
+      sym (unmoved (kindOf (s .table .server .kind)) (s .table .server) (seenAt (taskSetOf (s .table)) (modelOf s)) (s .progress .server) (s .returns) held (may-facts s may .returns) (may-delay s may) e)
+
+  pub moved-is : (c : ℕ) (d : Decision) (g : Edge) (P : ℕ) (v : Bool) → d ≡ decidedBy s c → P ≡ delayBy (s .table .server) → g ≡ edgeAt s → v ≡ byBudget (d .turn) →
+      cond (moves g v) (advanced P (s .progress .clock) v (s .returns)) (s .returns) ≡ stateAfter s .returns
+  moved-is c d g P v ed ep eg ev = rw (ev, ed, ep, eg) (go (movesAt s) refl)
+    where
+      go : (m : Bool) → movesAt s ≡ m → cond m (advancedAt s) (s .returns) ≡ stateAfter s .returns
+      go true e = returns-after e
+      go false e = returns-stay e
 
 -- ---- what a tick reports
 occupant-is : (turn : Turn) (q : List Request) → occupantFor turn (headId q) ≡ occupantOf turn q
@@ -163,15 +256,16 @@ occupant-is (Turn.Task i) q = refl
 occupant-is Turn.Budget q = refl
 occupant-is Turn.Spare q = refl
 
-pub record-is : (s : State) (c g : ℕ) (d : Decision) (h : Head) (b : Bool) (o : Occupant) (e : Entry) (k : ℕ) → d ≡ decidedBy s c → h ≡ headOf (waitingOf (s .queue)) →
-    b ≡ toRequest (d .turn) → o ≡ occupantFor (d .turn) (h .id) → e ≡ entryBy o (d .drops) → k ≡ givenAfter b (h .ends) g →
-    record { progress = d .progress; entry = e; calm = d .calm; given = k; leaves = b && h .ends } ≡ recordedBy s c g
-record-is s c g d h b o e k ed eh eb eo ee ek =
+pub record-is : (s : State) (c g : ℕ) (d : Decision) (h : Head) (x : Edge) (b v : Bool) (o : Occupant) (e : Entry) (k : ℕ) → d ≡ decidedBy s c → h ≡ headOf (waitingOf (s .queue)) →
+    x ≡ edgeAt s → b ≡ toRequest (d .turn) → v ≡ byBudget (d .turn) → o ≡ occupantFor (d .turn) (h .id) → e ≡ entryBy o (d .drops) → k ≡ givenAfter b (h .ends) g →
+    record { progress = d .progress; entry = e; calm = d .calm; given = k; leaves = b && h .ends; moves = moves x v; t = s .progress .clock; holds = v } ≡ recordedBy s c g
+record-is s c g d h x b v o e k ed eh ex eb ev eo ee ek =
     let o1 : o ≡ ticked s .occupant = eo ∙ rw (ed, eh) (occupant-is (turnAt (taskSetOf (s .table)) (modelOf s)) (waitingOf (s .queue))) in
     let e1 : e ≡ entryOf (ticked s) = ee ∙ rw (o1, ed) refl in
     let b1 : b ≡ servesAt s = eb ∙ rw ed refl in
     let k1 : k ≡ givenAfter (servesAt s) (ends (waitingOf (s .queue))) g = ek ∙ rw (b1, eh) refl in
-    rw (k1, b1, e1, ed, eh)
+    let v1 : v ≡ holdsAt s = ev ∙ rw ed refl in
+    rw (k1, b1, e1, v1, ed, eh, ex)
 
 -- ---- the calm after a tick
 pub calm-after : (s : State) (c : ℕ) → mayRun 1 s ≡ true → length (s .table .tasks) ≡ maxTasks → CalmFor (s .table) (s .progress) c →
@@ -224,22 +318,23 @@ module _ (s : State) (room : s .queue .n ≤ maxWaiting) (long : length (s .queu
     turns : (b : Bool) → b ≡ toRequest (d .turn) → (v : Bool) → b ≡ v → toRequest now ≡ v
     turns b e v f = sym (rw ed at e) ∙ f
 
-    pub ran-served : (b : Bool) → b ≡ toRequest (d .turn) → b ≡ true → (f : Finish) (q : Queue) → f ≡ finished (s .progress .clock) (waitingOf (s .queue)) → q ≡ servedQueue (s .queue) →
-        record { answer = TickAnswer.Ran o (d .drops) f; state = record { table = s .table; progress = d .progress; queue = q } } ≡ ranBy s (ticked s)
-    ran-served b e y f q ef eq =
+    pub ran-served : (b : Bool) → b ≡ toRequest (d .turn) → b ≡ true → (f : Finish) (q : Queue) (r : Returns) → f ≡ finished (s .progress .clock) (waitingOf (s .queue)) → q ≡ servedQueue (s .queue) →
+        r ≡ stateAfter s .returns →
+        record { answer = TickAnswer.Ran o (d .drops) f; state = record { table = s .table; progress = d .progress; queue = q; returns = r } } ≡ ranBy s (ticked s)
+    ran-served b e y f q r ef eq er =
         let v : toRequest now ≡ true = turns b e true y in
-        rw (occupant, ed, ef, finish-some (s .progress .clock) now (waitingOf (s .queue)) v, eq, after-serve now v)
+        rw (occupant, ed, ef, finish-some (s .progress .clock) now (waitingOf (s .queue)) v, eq, after-serve now v, er)
 
-    pub ran-stays : (b : Bool) → b ≡ toRequest (d .turn) → b ≡ false →
-        record { answer = TickAnswer.Ran o (d .drops) Finish.Nothing; state = record { table = s .table; progress = d .progress; queue = s .queue } } ≡ ranBy s (ticked s)
-    ran-stays b e y =
+    pub ran-stays : (b : Bool) → b ≡ toRequest (d .turn) → b ≡ false → (r : Returns) → r ≡ stateAfter s .returns →
+        record { answer = TickAnswer.Ran o (d .drops) Finish.Nothing; state = record { table = s .table; progress = d .progress; queue = s .queue; returns = r } } ≡ ranBy s (ticked s)
+    ran-stays b e y r er =
         let v : toRequest now ≡ false = turns b e false y in
-        rw (occupant, ed, ← (finish-none (s .progress .clock) now (waitingOf (s .queue)) v), ← (after-stay now v))
+        rw (occupant, ed, ← (finish-none (s .progress .clock) now (waitingOf (s .queue)) v), ← (after-stay now v), er)
 
 -- ---- the queue of a run, whose head has had g ticks of service that it does not show
-module _ (t : Table) (p : Progress) (c : Queue) (z g : ℕ) (may : mayRun 1 (stateOf t p (shown g c)) ≡ true) (long : length (c .requests) ≡ maxWaiting) where
+module _ (t : Table) (p : Progress) (c : Queue) (r : Returns) (z g : ℕ) (may : mayRun 1 (stateOf t p (shown g c) r) ≡ true) (long : length (c .requests) ≡ maxWaiting) where
   abbrev at : State
-  at = stateOf t p (shown g c)
+  at = stateOf t p (shown g c) r
 
   after : (b : Bool) → servesAt at ≡ b → cond b (servedQueue (shown g c)) (shown g c) ≡ stateAfter at .queue
   after b e = queue-after at (may-facts at may .waiting) (less-length g (c .requests) ∙ long) b e

@@ -2,6 +2,9 @@
 use Prim.Native.Nat.{ℕ, _≤_}
 use mathlib.Core.Path.{_≡_}
 use mathlib.Core.Bool.{Bool, true, _&&_}
+use Rattle.server.specs.declared.Returns.{Returns}
+use Rattle.server.specs.declared.Edge.{Edge}
+use Rattle.server.specs.Advanced.{delayBy, edgeBy, moves, advanced}
 use Rattle.queue.specs.declared.Queue.{Queue}
 use Rattle.queue.specs.Queue.{waitingOf}
 use Rattle.table.specs.declared.Table.{Table}
@@ -10,9 +13,8 @@ use Rattle.table.specs.declared.State.{State}
 use Rattle.table.specs.Model.{taskSetOf, modelOf}
 use Rattle.rules.specs.declared.Turn.{Turn}
 use Rattle.rules.specs.declared.Occupant.{Occupant}
-use Rattle.rules.specs.Tick.{turnAt}
+use Rattle.rules.specs.Tick.{turnAt, byBudget}
 use Rattle.rules.specs.Calls.{ticked, stateAfter, entryOf}
-use Rattle.scheduler.specs.declared.work.Head.{Head}
 use Rattle.scheduler.specs.declared.decision.Decision.{Decision}
 use Rattle.scheduler.specs.declared.running.Recorded.{Recorded}
 use Rattle.scheduler.specs.Parts.{stateOf, mayRun}
@@ -24,7 +26,21 @@ use Rattle.scheduler.specs.Service.{headWork, shown, givenAfter}
 abbrev pub calmOf : State → ℕ → ℕ
 calmOf s c = calmAfter (s .progress .clock) (s .table .tasks) (s .table .n) c
 
--- what a tick decides: all but the queue
+-- what a tick reads of kind 4's returns, whether it is served by the budget, and whether they change
+abbrev pub edgeAt : State → Edge
+edgeAt s = edgeBy (s .table .server) (s .progress .clock) (s .returns)
+
+abbrev pub holdsAt : State → Bool
+holdsAt s = byBudget (turnAt (taskSetOf (s .table)) (modelOf s))
+
+abbrev pub movesAt : State → Bool
+movesAt s = moves (edgeAt s) (holdsAt s)
+
+-- the returns of kind 4 after the tick
+abbrev pub advancedAt : State → Returns
+advancedAt s = advanced (delayBy (s .table .server)) (s .progress .clock) (holdsAt s) (s .returns)
+
+-- what a tick decides: all but the queue and kind 4's returns
 abbrev pub decidedBy : State → ℕ → Decision
 decidedBy s c = record {
   progress = stateAfter s .progress;
@@ -33,9 +49,12 @@ decidedBy s c = record {
   calm = calmOf s c;
 }
 
--- the decision d is the tick's, whatever the queue is whose head was read
-abbrev pub Decides : Table → Progress → Head → ℕ → Decision → Type 0
-Decides t p h c d = (q : Queue) → h ≡ headOf (waitingOf q) → mayRun 1 (stateOf t p q) ≡ true → d ≡ decidedBy (stateOf t p q) c
+-- The decision d is the tick's, whatever the queue and the returns are of which was read whether a request waits, with room to hold its
+-- tick, whether none does after a served tick, and whether a held tick comes back. (Where there is no room, kind 4 looks at no request.)
+abbrev pub Decides : Table → Progress → Bool → Bool → Bool → ℕ → Decision → Type 0
+Decides t p waiting last back c d = (q : Queue) (r : Returns) → waiting ≡ headOf (waitingOf q) .waits && edgeAt (stateOf t p q r) .room →
+    last ≡ headOf (waitingOf q) .last → back ≡ edgeAt (stateOf t p q r) .back → mayRun 1 (stateOf t p q r) ≡ true →
+    d ≡ decidedBy (stateOf t p q r) c
 
 -- who has the tick, by the id of the queue's head
 abbrev pub occupantFor : Turn → ℕ → Occupant
@@ -46,9 +65,9 @@ occupantFor Turn.Spare id = Occupant.Request id
 
 -- ---- a tick of a run
 -- what a tick of a run asks: the state may run it, the ticks before c are calm, and the service that is counted passes neither
--- the clock nor the head's work
-abbrev pub MayRecord : Table → Progress → Queue → ℕ → ℕ → Type 0
-MayRecord t p q c g = (mayRun 1 (stateOf t p (shown g q)) ≡ true) × CalmFor t p c × (g ≤ p .clock) × (g ≤ headWork q)
+-- the clock nor the head's work; P is the server's delay
+abbrev pub MayRecord : Table → Progress → Queue → Returns → ℕ → ℕ → ℕ → Type 0
+MayRecord t p q r P c g = (mayRun 1 (stateOf t p (shown g q) r) ≡ true) × CalmFor t p c × (g ≤ p .clock) × (g ≤ headWork q) × (P ≡ delayBy (t .server))
 
 -- the tick of a state goes to a request
 abbrev pub servesAt : State → Bool
@@ -62,4 +81,7 @@ recordedBy s c g = record {
   calm = calmOf s c;
   given = givenAfter (servesAt s) (ends (waitingOf (s .queue))) g;
   leaves = servesAt s && ends (waitingOf (s .queue));
+  moves = movesAt s;
+  t = s .progress .clock;
+  holds = holdsAt s;
 }

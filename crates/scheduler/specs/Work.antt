@@ -1,5 +1,6 @@
 -- Step 5 of a tick: what is read of the queue, and what the server is shown.
 use Prim.Native.Nat.{ℕ}
+use mathlib.Core.Path.{_≡_}
 use mathlib.Core.Bool.{Bool, true, false, cond, not}
 use mathlib.Core.List.{List, [], _∷_}
 use lib.Dec.{leb}
@@ -20,6 +21,17 @@ ends (r ∷ q) = leb (r .work) 1
 abbrev pub headOf : List Request → Head
 headOf q = record { waits = waits q; ends = ends q; last = not (waits (served q)); id = headId q }
 
+-- the tick goes to a task
+abbrev pub toTask : Turn → Bool
+toTask Turn.Nobody = false
+toTask (Turn.Task i) = true
+toTask Turn.Budget = false
+toTask Turn.Spare = false
+
+-- a task's turn is that of task i
+abbrev pub IsFirst : Turn → ℕ → Type 0
+IsFirst turn first = (i : ℕ) → turn ≡ Turn.Task i → i ≡ first
+
 -- the tick goes to a request
 abbrev pub toRequest : Turn → Bool
 toRequest Turn.Nobody = false
@@ -27,13 +39,13 @@ toRequest (Turn.Task i) = false
 toRequest Turn.Budget = true
 toRequest Turn.Spare = true
 
--- what step 5 shows the server, by what is read of the queue
-abbrev pub seenOf : ℕ → Head → Turn → Bool → Bool → Seen
-seenOf t h turn above busy = record {
+-- what step 5 shows the server, by what is read of the queue: whether a request waits, and whether none does after a served tick
+abbrev pub seenOf : ℕ → Bool → Bool → Turn → Bool → Bool → Seen
+seenOf t waiting last turn above busy = record {
   t = t;
   above = above;
   busy = busy;
   serves = byBudget turn;
-  waited = h .waits;
-  emptied = cond (toRequest turn) (h .last) (not (h .waits));
+  waited = waiting;
+  emptied = cond (toRequest turn) last (not waiting);
 }

@@ -3,7 +3,6 @@ ghost use mathlib.Core.Path.{_≡_};
 ghost use Rattle.server.specs.Kind.{kindOf};
 ghost use Rattle.rules.specs.Tick.{choose, idleTurn};
 use rules::Turn;
-use server::ServerState;
 
 // A tick that would be idle: kind 0 gives it to the head request.
 fn idle_turn(kind: u32, waiting: bool) -> Turn
@@ -13,6 +12,7 @@ fn idle_turn(kind: u32, waiting: bool) -> Turn
         1 => Turn::Nobody,
         2 => Turn::Nobody,
         3 => Turn::Nobody,
+        4 => Turn::Nobody,
         _ => {
             if waiting {
                 return Turn::Spare;
@@ -22,21 +22,14 @@ fn idle_turn(kind: u32, waiting: bool) -> Turn
     }
 }
 
-// The first open task above; else the head request, by the budget; else the first open task below; else an idle tick.
-pub fn choose_turn(
-    kind: u32,
-    above: bool,
-    busy: bool,
-    waiting: bool,
-    server: ServerState,
-    first: u32,
-) -> Turn
-    ensures { λ r. ⌜ r ≡ choose (kindOf kind) above busy waiting server first ⌝ }
+// The first open task above; else the head request, by the budget, if the server may serve; else the first open task below; else an idle tick.
+pub fn choose_turn(kind: u32, above: bool, busy: bool, waiting: bool, may: bool, first: u32) -> Turn
+    ensures { λ r. ⌜ r ≡ choose (kindOf kind) above busy waiting may first ⌝ }
 {
     if above {
         return Turn::Task(first);
     }
-    if waiting & (0 < server.budget) {
+    if may {
         return Turn::Budget;
     }
     if busy {

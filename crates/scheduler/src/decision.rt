@@ -1,4 +1,4 @@
-// Steps 1 to 6 of a tick, but for the queue: the steps in their order, and step 6, by which the clock rises.
+// Steps 1 to 6 of a tick, but for the queue and kind 4's returns: the steps in their order, and step 6, by which the clock rises.
 ghost use Prim.Native.Nat.{_<_};
 ghost use Rattle.server.specs.Limits.{lastClock};
 ghost use Rattle.table.specs.Facts.{TableFacts};
@@ -6,14 +6,13 @@ ghost use Rattle.scheduler.specs.Opening.{CalmFor};
 ghost use Rattle.scheduler.specs.Decision.{Decides};
 use crate::choice::choose_turn;
 use crate::replenishment::start;
-use crate::work::Head;
 use crate::work::show;
 use crate::work::work_tasks;
 use rules::Turn;
 use table::Progress;
 use table::Table;
 
-// What a tick decides: all but the queue.
+// What a tick decides: all but the queue and kind 4's returns.
 pub struct Decision {
     pub progress: Progress,
     pub turn: Turn,
@@ -21,21 +20,30 @@ pub struct Decision {
     pub calm: u32,
 }
 
-// It sees the queue's head alone, so that a run does not copy the queue in every tick.
-pub fn decide(table: Table, progress: Progress, head: Head, calm: u32) -> Decision
+// So that a run copies neither in every tick, it is told of the queue and the returns: whether a request waits that may be served
+// (`waiting`), whether none does after a served tick (`last`), and whether a held tick comes back.
+pub fn decide(
+    table: Table,
+    progress: Progress,
+    waiting: bool,
+    last: bool,
+    back: bool,
+    calm: u32,
+) -> Decision
     requires { ⌜ TableFacts table × (progress .clock < lastClock) × CalmFor table progress calm ⌝ }
-    ensures { λ r. ⌜ Decides table progress head calm r ⌝ }
+    ensures { λ r. ⌜ Decides table progress waiting last back calm r ⌝ }
 {
     let server = table.server;
     let t = progress.clock;
-    let s = start(table, progress, calm);
+    let s = start(table, progress, back, calm);
     let full = s.server;
     let above = s.first < server.place;
     let busy = s.first < table.n;
-    let turn = choose_turn(server.kind, above, busy, head.waits, full, s.first);
+    let may = waiting & (0 < full.budget);
+    let turn = choose_turn(server.kind, above, busy, waiting, may, s.first);
     let opened = s.left;
-    let left = work_tasks(opened, turn);
-    let seen = show(t, head, turn, above, busy);
+    let left = work_tasks(opened, turn, s.first);
+    let seen = show(t, waiting, last, turn, above, busy);
     let clock = t + 1;
     Decision {
         progress: Progress {

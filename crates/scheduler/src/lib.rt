@@ -75,12 +75,14 @@ pub fn request(state: State, id: u32, work: u32) -> Moved
     }
     let table = state.table;
     let progress = state.progress;
+    let returns = state.returns;
     Moved {
         answer: Checked::Passed,
         state: State {
             table,
             progress,
             queue: queue.push(id, work, progress.clock),
+            returns,
         },
     }
 }
@@ -104,9 +106,11 @@ pub fn run_block(state: State, k: u32) -> Recording
     let allowed = check_run(state, k, Recording::TICKS);
     let answer = allowed.answer;
     let ticks = allowed.ticks;
+    let period = allowed.period;
     let table = state.table;
     let mut progress = state.progress;
     let mut queue = state.queue;
+    let mut returns = state.returns;
     let mut entries = [Entry {
         kind: 0,
         id: 0,
@@ -116,7 +120,7 @@ pub fn run_block(state: State, k: u32) -> Recording
     let mut given: u32 = 0;
     let mut i: usize = 0;
     while i < ticks {
-        let d = record_tick(table, progress, queue, calm, given);
+        let d = record_tick(table, progress, queue, returns, period, calm, given);
         let entry = d.entry;
         let next = d.progress;
         entries[i] = entry;
@@ -129,8 +133,11 @@ pub fn run_block(state: State, k: u32) -> Recording
         } else {
             given = d.given;
         }
+        if d.moves {
+            returns = returns.advance(period, d.t, d.holds);
+        }
     }
-    let at = settle(table, progress, queue, given);
+    let at = settle(table, progress, queue, returns, given);
     Recording {
         answer,
         entries,
@@ -139,7 +146,7 @@ pub fn run_block(state: State, k: u32) -> Recording
 }
 
 // The run call: k ticks, the record of each in the lent list, or refusal 11, 6 or 10. Fitness is looked at once, the tasks only
-// where the calm ends, and the queue is written only where its head leaves.
+// where the calm ends, the queue is written only where its head leaves, and kind 4's returns only where they change.
 pub fn run(state: State, k: u32, entries: &mut [Entry]) -> Moved
     ensures { λ r. ⌜ (r ≡ runCall state k (length (now (entries .entry)))) × (now (entries .exit) ≡ runList state k (now (entries .entry))) × (figures (r .answer) ≡ runFigures state k (length (now (entries .entry)))) ⌝ }
 {
@@ -148,15 +155,19 @@ pub fn run(state: State, k: u32, entries: &mut [Entry]) -> Moved
     let table = state.table;
     let mut progress = state.progress;
     let mut queue = state.queue;
+    let mut returns = state.returns;
     let mut calm: u32 = 0;
     let mut given: u32 = 0;
     let mut i: usize = 0;
     while i < allowed.ticks {
-        let d = record_tick(table, progress, queue, calm, given);
+        let d = record_tick(table, progress, queue, returns, allowed.period, calm, given);
         entries[i] = d.entry;
         progress = d.progress;
         calm = d.calm;
         i += 1;
+        if d.moves {
+            returns = returns.advance(allowed.period, d.t, d.holds);
+        }
         if d.leaves {
             queue = leave(queue, given);
             given = 0;
@@ -164,7 +175,7 @@ pub fn run(state: State, k: u32, entries: &mut [Entry]) -> Moved
             given = d.given;
         }
     }
-    let at = settle(table, progress, queue, given);
+    let at = settle(table, progress, queue, returns, given);
     Moved {
         answer: allowed.answer,
         state: at,

@@ -1,13 +1,15 @@
-// The tick of the tick call: what a tick decides, the queue's part of step 5, and the answer.
+// The tick of the tick call: what a tick decides, the part of it that the queue and the returns have, and the answer.
 ghost use Prim.Native.Nat.{_≤_};
-ghost use mathlib.Core.Bool.{true};
+ghost use mathlib.Core.Bool.{cond, true};
 ghost use mathlib.Core.Path.{_≡_};
 ghost use Rattle.server.specs.Limits.{lastClock};
+ghost use Rattle.server.specs.Advanced.{advanced};
 ghost use Rattle.queue.specs.Queue.{maxWaiting, waitingOf, finished};
 ghost use Rattle.rules.specs.Calls.{ticked, ranBy};
 ghost use Rattle.scheduler.specs.Parts.{mayRun};
 ghost use Rattle.scheduler.specs.Decision.{occupantFor};
 use crate::decision::decide;
+use crate::work::by_budget;
 use crate::work::head_of;
 use crate::work::to_request;
 use queue::Finish;
@@ -16,6 +18,7 @@ use rules::Occupant;
 use rules::TickAnswer;
 use rules::Ticked;
 use rules::Turn;
+use server::Returns;
 use table::State;
 
 // Who has the tick; id is the head request's.
@@ -55,6 +58,16 @@ fn finish_of(t: u32, queue: Queue) -> Finish
     Finish::Nothing
 }
 
+// The returns after tick t: they change where `moves` says so; holds: the tick is served by the budget.
+fn moved(returns: Returns, moves: bool, period: u32, t: u32, holds: bool) -> Returns
+    ensures { λ r. ⌜ r ≡ cond moves (advanced period t holds returns) returns ⌝ }
+{
+    if moves {
+        return returns.advance(period, t, holds);
+    }
+    returns
+}
+
 // A tick of a state that may run one.
 pub fn run_tick(state: State) -> Ticked
     requires { ⌜ mayRun 1 state ≡ true ⌝ }
@@ -63,13 +76,27 @@ pub fn run_tick(state: State) -> Ticked
     let table = state.table;
     let progress = state.progress;
     let queue = state.queue;
+    let returns = state.returns;
     let head = head_of(queue, 0);
-    let d = decide(table, progress, head, 0);
+    let server = table.server;
+    let period = server.delay();
+    let t = progress.clock;
+    let edge = returns.edge(period, t);
+    let d = decide(
+        table,
+        progress,
+        head.waits & edge.room,
+        head.last,
+        edge.back,
+        0,
+    );
     let turn = d.turn;
     let next = d.progress;
     let occupant = occupant_of(turn, head.id);
+    let holds = by_budget(turn);
+    let moves = edge.back | (edge.holds & holds);
     if to_request(turn) {
-        let finish = finish_of(progress.clock, queue);
+        let finish = finish_of(t, queue);
         return Ticked {
             answer: TickAnswer::Ran {
                 occupant,
@@ -80,6 +107,7 @@ pub fn run_tick(state: State) -> Ticked
                 table,
                 progress: next,
                 queue: queue.serve(),
+                returns: moved(returns, moves, period, t, holds),
             },
         };
     }
@@ -93,6 +121,7 @@ pub fn run_tick(state: State) -> Ticked
             table,
             progress: next,
             queue,
+            returns: moved(returns, moves, period, t, holds),
         },
     }
 }

@@ -2,8 +2,8 @@
 ghost use Prim.Native.Nat.{_≤_};
 ghost use mathlib.Core.Path.{_≡_};
 ghost use Rattle.queue.specs.Queue.{maxWaiting, waitingOf};
-ghost use Rattle.rules.specs.Tick.{workedTasks};
-ghost use Rattle.scheduler.specs.Work.{headOf, toRequest, seenOf};
+ghost use Rattle.rules.specs.Tick.{byBudget, workedTasks};
+ghost use Rattle.scheduler.specs.Work.{headOf, toTask, toRequest, IsFirst, seenOf};
 ghost use Rattle.scheduler.specs.Service.{headWork, shown};
 use queue::Queue;
 use rules::Turn;
@@ -55,68 +55,60 @@ pub fn to_request(turn: Turn) -> bool
     }
 }
 
-// What is left of the tasks after a task's tick of work.
-pub fn work_tasks(
-    mut left: [u32; Table::MAX_TASKS as usize],
-    turn: Turn,
-) -> [u32; Table::MAX_TASKS as usize]
-    ensures { λ r. ⌜ r ≡ workedTasks turn left ⌝ }
+// The tick goes to a request by the server's budget.
+pub fn by_budget(turn: Turn) -> bool
+    ensures { λ r. ⌜ r ≡ byBudget turn ⌝ }
 {
     match turn {
-        Turn::Nobody => left,
-        Turn::Task(i) => {
-            if Table::MAX_TASKS <= i {
-                return left;
-            }
-            let at = i as usize;
-            let was = left[at];
-            if was == 0 {
-                return left;
-            }
-            left[at] = was - 1;
-            left
-        }
-        Turn::Budget => left,
-        Turn::Spare => left,
+        Turn::Nobody => false,
+        Turn::Task(_) => false,
+        Turn::Budget => true,
+        Turn::Spare => false,
     }
 }
 
-// What step 5 shows the server.
-pub fn show(t: u32, head: Head, turn: Turn, above: bool, busy: bool) -> Seen
-    ensures { λ r. ⌜ r ≡ seenOf t head turn above busy ⌝ }
+// The tick goes to a task.
+fn to_task(turn: Turn) -> bool
+    ensures { λ r. ⌜ r ≡ toTask turn ⌝ }
 {
     match turn {
-        Turn::Nobody => Seen {
-            t,
-            above,
-            busy,
-            serves: false,
-            waited: head.waits,
-            emptied: !head.waits,
-        },
-        Turn::Task(_) => Seen {
-            t,
-            above,
-            busy,
-            serves: false,
-            waited: head.waits,
-            emptied: !head.waits,
-        },
-        Turn::Budget => Seen {
-            t,
-            above,
-            busy,
-            serves: true,
-            waited: head.waits,
-            emptied: head.last,
-        },
-        Turn::Spare => Seen {
-            t,
-            above,
-            busy,
-            serves: false,
-            waited: head.waits,
-            emptied: head.last,
-        },
+        Turn::Nobody => false,
+        Turn::Task(_) => true,
+        Turn::Budget => false,
+        Turn::Spare => false,
+    }
+}
+
+// What is left of the tasks after the tick; a task that has it is the first open one.
+pub fn work_tasks(
+    mut left: [u32; Table::MAX_TASKS as usize],
+    turn: Turn,
+    first: u32,
+) -> [u32; Table::MAX_TASKS as usize]
+    requires { ⌜ IsFirst turn first ⌝ }
+    ensures { λ r. ⌜ r ≡ workedTasks turn left ⌝ }
+{
+    if to_task(turn) & (first < Table::MAX_TASKS) {
+        let at = first as usize;
+        let was = left[at];
+        if 0 < was {
+            left[at] = was - 1;
+        }
+    }
+    left
+}
+
+// What step 5 shows the server.
+pub fn show(t: u32, waiting: bool, last: bool, turn: Turn, above: bool, busy: bool) -> Seen
+    ensures { λ r. ⌜ r ≡ seenOf t waiting last turn above busy ⌝ }
+{
+    let requested = to_request(turn);
+    Seen {
+        t,
+        above,
+        busy,
+        serves: by_budget(turn),
+        waited: waiting,
+        emptied: (requested & last) | !(requested | waiting),
     }
 }

@@ -147,7 +147,7 @@ pub record ServerCases : Type 0 where
       ++ replicate 2 (sp 1 5 1 0 false false true true)
       ++ replicate 2 (sp 0 5 1 10 true false false true)
   -- the fresh budget is B, but 0 for kind 0 and for a number that is no kind
-  pub fresh-kinds : map budgetOf (freshServer background (server 0 5 3) ∷ freshServer (kindOf 1) (server 1 5 3) ∷ freshServer (kindOf 2) (server 2 5 3) ∷ freshServer (kindOf 3) (server 3 5 3) ∷ freshServer (kindOf 4) (server 4 5 3) ∷ []) ≡ 0 ∷ 3 ∷ 3 ∷ 3 ∷ 0 ∷ []
+  pub fresh-kinds : map budgetOf (freshServer background (server 0 5 3) ∷ freshServer (kindOf 1) (server 1 5 3) ∷ freshServer (kindOf 2) (server 2 5 3) ∷ freshServer (kindOf 3) (server 3 5 3) ∷ freshServer (kindOf 4) (server 4 5 3) ∷ freshServer (kindOf 5) (server 5 5 3) ∷ []) ≡ 0 ∷ 3 ∷ 3 ∷ 3 ∷ 3 ∷ 0 ∷ []
   pub fresh-sporadic : freshServer sporadic (server 3 5 3) ≡ sp 3 0 0 0 false false false false
   -- "Under the other kinds all these fields stay unchanged", at both steps; under kind 0 the budget too
   pub background-refill : refill 0 (sp 2 1 2 3 true true false true) 5 true ≡ sp 2 1 2 3 true true false true
@@ -156,7 +156,8 @@ pub record ServerCases : Type 0 where
   pub polling-pay : pay 1 (sp 2 1 2 3 true true false true) (shows true true true false) ≡ sp 1 1 2 3 true true false true
   pub deferrable-refill : refill 2 (sp 2 1 2 3 true true false true) 5 true ≡ sp 3 1 2 3 true true false true
   pub deferrable-pay : pay 2 (sp 2 1 2 3 true true false true) (shows true true true false) ≡ sp 1 1 2 3 true true false true
-  pub other-kinds-stay : pay 4 (refill 4 (sp 2 1 2 3 true true false true) 5 true) (shows true true true true) ≡ sp 2 1 2 3 true true false true
+  pub returning-part : pay 4 (refill 4 (sp 2 1 2 3 true true false true) 5 true) (shows true true true true) ≡ sp 1 1 2 3 true true false true
+  pub other-kinds-stay : pay 5 (refill 5 (sp 2 1 2 3 true true false true) 5 true) (shows true true true true) ≡ sp 2 1 2 3 true true false true
   -- polling: "no row above is open in the tick and the queue was empty at step 4", each alone
   pub polling-waited : pay 1 (sp 2 0 0 0 false false false false) (shows false false true false) .budget ≡ 2
   pub polling-above : pay 1 (sp 2 0 0 0 false false false false) (shows true false false true) .budget ≡ 2
@@ -203,6 +204,7 @@ server-cases = record {
   polling-pay = refl;
   deferrable-refill = refl;
   deferrable-pay = refl;
+  returning-part = refl;
   other-kinds-stay = refl;
   polling-waited = refl;
   polling-above = refl;

@@ -12,9 +12,10 @@ use Rattle.server.specs.declared.Server.{Server}
 use Rattle.server.specs.declared.Sporadic.{Sporadic}
 use Rattle.server.specs.declared.ServerState.{ServerState}
 use Rattle.server.specs.declared.Seen.{Seen}
-use Rattle.server.specs.Kind.{Kind, background, polling, deferrable, sporadic, kindOf}
+use Rattle.server.specs.Kind.{Kind, background, polling, deferrable, sporadic, returning, kindOf}
 use Rattle.server.specs.Sporadic.{refills, effective, fixed, firstServed, marked}
 use Rattle.server.specs.Server.{replenish, consume}
+use Rattle.server.specs.Whole.{Whole, replenishPart}
 use Rattle.server.specs.Consumed.{last32, consumed}
 
 -- no "tr or begin after the clock, or nr above 4,000,060,000"
@@ -49,6 +50,15 @@ replenish-within sporadic s x t busy h =
       times = record { tr = omega arith; begin = h .times .begin; nr = omega arith };
     })
     h
+replenish-within returning s x t busy h = h
+
+-- the times, of a server's whole state
+pub part-timed : (k : Kind) (s : Server) (x : Whole) (t : ℕ) (busy : Bool) → Within s t (x .part) → Timed t (replenishPart k s x t busy .sporadic)
+part-timed background s x t busy h = h .times
+part-timed polling s x t busy h = h .times
+part-timed deferrable s x t busy h = h .times
+part-timed sporadic s x t busy h = replenish-within sporadic s (x .part) t busy h .times
+part-timed returning s x t busy h = h .times
 
 -- the times that a first service fixes
 effective-le : (x : Sporadic) (t : ℕ) → x .tr ≤ t → x .begin ≤ t → effective x t ≤ t
@@ -81,6 +91,7 @@ consume-timed background s x e a b h = h
 consume-timed polling s x e a b h = h
 consume-timed deferrable s x e a b h = h
 consume-timed sporadic s x e a b h = marked-timed e (firstServed s e (x .sporadic)) (first-timed s e (x .sporadic) a b h)
+consume-timed returning s x e a b h = h
 
 pub consume-within : (k : Kind) (s : Server) (x : ServerState) (e : Seen) → s .period ≤ maxTime → e .t ≤ lastClock →
     Within s (e .t) x → Within s (e .t) (consume k s x e)
@@ -101,6 +112,10 @@ consume-within sporadic s x e a b h = record {
       either (λ (n : ℕ). n ≤ s .budget) (e .serves) (omega (arith, h .budget))
       (either (λ (n : ℕ). n ≤ s .budget) (not (e .above) && x .sporadic .served) (omega (arith, h .budget)) (h .budget));
   times = consume-timed sporadic s x e a b (h .times);
+}
+consume-within returning s x e a b h = record {
+  budget = either (λ (n : ℕ). n ≤ s .budget) (e .serves) (omega (arith, h .budget)) (h .budget);
+  times = h .times;
 }
 
 -- within the limits the next replenishment fits 32 bits

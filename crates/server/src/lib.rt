@@ -1,15 +1,17 @@
 // The server: its parameters, its state, and what a tick shows it and does to it. A file for each kind has that kind's rules.
 ghost use mathlib.Core.Path.{_≡_};
 ghost use Rattle.server.specs.Kind.{kindOf};
-ghost use Rattle.server.specs.Server.{freshServer, replenish};
+ghost use Rattle.server.specs.Server.{freshServer};
 ghost use Rattle.server.specs.Consumed.{consumed};
+ghost use Rattle.server.specs.Advanced.{delayBy, replenishedBy};
 
 mod deferrable;
 mod periodic;
 mod polling;
+mod returning;
 mod simple_sporadic;
 
-// The server of a table. kind: 0 background, 1 polling, 2 deferrable, 3 simple sporadic. place (document 01's s): how many
+// The server of a table. kind: 0 background, 1 polling, 2 deferrable, 3 simple sporadic, 4 returning (tick by tick). place (document 01's s): how many
 // tasks stand above it. period is document 01's P, budget its B.
 #[repr(C)]
 pub struct Server {
@@ -42,6 +44,28 @@ pub struct Sporadic {
 pub struct ServerState {
     pub budget: u32,
     pub sporadic: Sporadic,
+}
+
+// An unbroken stretch of ticks that a server of kind 4 served.
+#[repr(C)]
+pub struct Stretch {
+    pub start: u32,
+    pub length: u32,
+}
+
+// What only a server of kind 4 keeps, beside its budget: the first n slots hold the stretches that have not come back, oldest first.
+#[repr(C)]
+pub struct Returns {
+    pub stretches: [Stretch; Returns::CAPACITY as usize],
+    pub n: u32,
+}
+
+// All that a tick reads of the returns: whether a held tick comes back at step 3, whether a served tick can be held after it, and
+// whether served ticks are held at all, as under kind 4 alone.
+pub struct Edge {
+    pub back: bool,
+    pub room: bool,
+    pub holds: bool,
 }
 
 // What a tick shows the server at step 5: its number, whether a task above the server is open in it, whether any task is,
@@ -83,6 +107,10 @@ impl Server {
                 budget: self.budget,
                 sporadic,
             },
+            4 => ServerState {
+                budget: self.budget,
+                sporadic,
+            },
             _ => ServerState {
                 budget: 0,
                 sporadic,
@@ -91,16 +119,37 @@ impl Server {
     }
 }
 
+impl Server {
+    // The last number of 32 bits.
+    pub const LAST32: u32 = 4294967295;
+
+    // How many ticks after its service a tick comes back: none does but under kind 4, and this is 0.
+    pub fn delay(self) -> u32
+        ensures { λ r. ⌜ r ≡ delayBy self ⌝ }
+    {
+        if self.kind == 4 {
+            return self.period;
+        }
+        0
+    }
+}
+
+impl Returns {
+    // How many stretches may be held.
+    pub const CAPACITY: u32 = 32;
+}
+
 impl ServerState {
-    // Step 3, at tick t; busy: some task is open.
-    pub fn replenish(self, server: Server, t: u32, busy: bool) -> ServerState
-        ensures { λ r. ⌜ r ≡ replenish (kindOf (server .kind)) server self t busy ⌝ }
+    // Step 3, at tick t; busy: some task is open; back: a held tick comes back, as its `Edge` says.
+    pub fn replenish(self, server: Server, t: u32, busy: bool, back: bool) -> ServerState
+        ensures { λ r. ⌜ r ≡ replenishedBy server self t busy back ⌝ }
     {
         let kind = server.kind;
         match kind {
             1 => periodic::replenish(self, server, t),
             2 => periodic::replenish(self, server, t),
             3 => simple_sporadic::replenish(self, server, t, busy),
+            4 => returning::regain(self, server.budget, back),
             _ => self,
         }
     }
@@ -114,6 +163,7 @@ impl ServerState {
             1 => polling::consume(self, seen),
             2 => deferrable::consume(self, seen),
             3 => simple_sporadic::consume(self, server, seen),
+            4 => deferrable::consume(self, seen),
             _ => self,
         }
     }

@@ -19,7 +19,7 @@ use Rattle.table.specs.declared.Refusal.{Refusal}
 use Rattle.table.specs.declared.Checked.{Checked}
 use Rattle.table.specs.Limits.{maxTasks, taskFits, firstBad, serverFits}
 use Rattle.table.specs.Refusal.{passed}
-use Rattle.table.specs.State.{tableCheck, leftFits, serverStateFits, fit}
+use Rattle.table.specs.State.{tableCheck, leftFits, serverStateFits, stateReturnsFit, fit}
 
 module _ (d : Task) where
   -- none of the first i is bad, nor the next
@@ -84,28 +84,39 @@ pub fit-order : (s : State) → fit s ≡
     && (leb (s .progress .clock) lastClock
     && (serverStateFits (s .table .server) (s .progress .clock) (s .progress .server)
     && (queueFits (s .progress .clock) (s .queue)
-    && allWith leftFits (take (s .table .n) (s .table .tasks)) (take (s .table .n) (s .progress .left)))))
+    && (stateReturnsFit s
+    && allWith leftFits (take (s .table .n) (s .table .tasks)) (take (s .table .n) (s .progress .left))))))
 fit-order s =
     order (passed (tableCheck (s .table))) (leb (s .queue .n) maxWaiting) (leb (s .progress .clock) lastClock)
     (allWith leftFits (take (s .table .n) (s .table .tasks)) (take (s .table .n) (s .progress .left)))
     (serverStateFits (s .table .server) (s .progress .clock) (s .progress .server))
-    (requestsFit (s .progress .clock) (waitingOf (s .queue)))
+    (requestsFit (s .progress .clock) (waitingOf (s .queue))) (stateReturnsFit s)
   where
-    order : (a q c l v r : Bool) → (a && q) && (c && l && v && r) ≡ a && (c && (v && ((q && r) && l)))
-    order false q c l v r = refl
-    order true false false l v r = refl
-    order true false true l true r = refl
-    order true false true l false r = refl
-    order true true false l v r = refl
-    order true true true l false r = by l
-      where
-        by : (l : Bool) → (l && false) && r ≡ false
-        by true = refl
-        by false = refl
-    order true true true true true true = refl
-    order true true true true true false = refl
-    order true true true false true true = refl
-    order true true true false true false = refl
+    zero-and : (l r : Bool) → (l && false) && r ≡ false
+    zero-and true r = refl
+    zero-and false r = refl
+
+    last : (l r : Bool) → (l && true) && r ≡ r && (true && l)
+    last true true = refl
+    last true false = refl
+    last false true = refl
+    last false false = refl
+
+    none : (r l : Bool) → false ≡ r && (false && l)
+    none true l = refl
+    none false l = refl
+
+    order : (a q c l v r h : Bool) → (a && q && h) && (c && l && v && r) ≡ a && (c && (v && ((q && r) && (h && l))))
+    order false q c l v r h = refl
+    order true false false l v r h = refl
+    order true false true l true r h = refl
+    order true false true l false r h = refl
+    order true true false l v r true = refl
+    order true true false l v r false = refl
+    order true true true l false r true = zero-and l r
+    order true true true l false r false = refl
+    order true true true l true r true = last l r
+    order true true true l true r false = none r l
 
 -- what the answer of the check says
 pub unfit-table : (s : State) (a : Checked) (r : Refusal) → a ≡ tableCheck (s .table) → a ≡ Checked.Refused r → false ≡ fit s

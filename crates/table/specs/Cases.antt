@@ -5,7 +5,10 @@ use mathlib.Core.Bool.{true, false}
 use mathlib.Core.List.{List, [], _∷_, map}
 use lib.ListN.{replicate}
 use Rattle.lists.specs.Lists.{overlay}
+use Rattle.server.specs.Returns.{freshReturns}
+use Rattle.server.specs.Whole.{whole}
 use Rattle.server.specs.declared.Server.{Server}
+use Rattle.server.specs.declared.Stretch.{Stretch}
 use Rattle.queue.specs.declared.Queue.{Queue}
 use Rattle.queue.specs.Queue.{maxWaiting, freshQueue, queueWith}
 use Rattle.table.specs.declared.Task.{Task}
@@ -15,7 +18,7 @@ use Rattle.table.specs.declared.Checked.{Checked}
 use Rattle.table.specs.declared.Refusal.{Refusal}
 use Rattle.table.specs.Limits.{maxTasks, taskFits}
 use Rattle.table.specs.Refusal.{number, value, numberOf, valueOf}
-use Rattle.table.specs.Model.{written}
+use Rattle.table.specs.Model.{modelOf, written}
 use Rattle.table.specs.State.{freshState, tableCheck, fit, setUpCall}
 
 abbrev task : ℕ → ℕ → ℕ → ℕ → Task
@@ -23,6 +26,9 @@ task f p e d = record { phase = f; period = p; exec = e; deadline = d }
 
 abbrev server : ℕ → ℕ → ℕ → ℕ → Server
 server k s p b = record { kind = k; place = s; period = p; budget = b }
+
+abbrev held : ℕ → ℕ → Stretch
+held a n = record { start = a; length = n }
 
 -- a table of n tasks, where a list of tasks is laid over blank ones
 abbrev table : List Task → ℕ → Server → Table
@@ -55,6 +61,7 @@ stood s left b tr begin nr clock q = record {
     clock = clock;
   };
   queue = q;
+  returns = freshReturns;
 }
 
 abbrev waiting : ℕ → ℕ → Queue
@@ -85,7 +92,10 @@ pub record LimitCases : Type 0 where
   pub deferrable-bad : map serverSays (server 2 3 5 2 ∷ server 2 2 5 0 ∷ server 2 2 5 6 ∷ server 2 2 60_001 2 ∷ []) ≡ 3 ∷ 3 ∷ 3 ∷ 3 ∷ []
   pub sporadic-bad : map serverSays (server 3 3 5 2 ∷ server 3 2 5 0 ∷ server 3 2 5 6 ∷ server 3 2 60_001 2 ∷ []) ≡ 3 ∷ 3 ∷ 3 ∷ 3 ∷ []
   pub background-bad : map serverSays (server 0 1 0 0 ∷ server 0 3 0 0 ∷ server 0 2 1 0 ∷ server 0 2 0 1 ∷ []) ≡ 3 ∷ 3 ∷ 3 ∷ 3 ∷ []
-  pub other-kinds : map serverSays (server 4 2 5 2 ∷ server 4 2 0 0 ∷ server 5 0 5 2 ∷ []) ≡ 3 ∷ 3 ∷ 3 ∷ []
+  -- 3/13: kind 4 as kinds 1 to 3, "refusal 3 now begins at kind 5"
+  pub returning-fit : map serverSays (server 4 2 5 5 ∷ server 4 0 60_000 1 ∷ []) ≡ 0 ∷ 0 ∷ []
+  pub returning-bad : map serverSays (server 4 3 5 2 ∷ server 4 2 5 0 ∷ server 4 2 5 6 ∷ server 4 2 60_001 2 ∷ []) ≡ 3 ∷ 3 ∷ 3 ∷ 3 ∷ []
+  pub other-kinds : map serverSays (server 5 0 5 2 ∷ server 5 2 0 0 ∷ []) ≡ 3 ∷ 3 ∷ []
   -- the numbers and values of document 01's table
   pub numbers :
       map number (Refusal.TaskCount ∷ Refusal.BadTask 5 ∷ Refusal.BadServer ∷ Refusal.BadWork ∷ Refusal.QueueFull ∷ Refusal.ClockSpent ∷ Refusal.ShortRecord ∷ Refusal.UnfitState ∷ []) ≡
@@ -105,6 +115,7 @@ pub record LimitCases : Type 0 where
           clock = 0;
         };
         queue = freshQueue;
+        returns = freshReturns;
       }
   pub set-up-refuses : says (setUpCall (table (good ∷ bad ∷ []) 2 fine) .answer) ≡ (2, 1)
   pub fresh-fits : fit (freshState (table (good ∷ []) 1 fine)) ≡ true
@@ -123,14 +134,21 @@ pub record LimitCases : Type 0 where
   pub arrival-past : fit (stood fine [] 2 0 0 0 9 (waiting 1 10)) ≡ false
   pub full-fits : fit (stood fine [] 2 0 0 0 9 (many maxWaiting)) ≡ true
   pub waiting-past : fit (stood fine [] 2 0 0 0 9 (many (suc maxWaiting))) ≡ false
-  pub table-unfit : fit (stood (server 4 0 5 2) [] 2 0 0 0 9 freshQueue) ≡ false
+  pub table-unfit : fit (stood (server 5 0 5 2) [] 2 0 0 0 9 freshQueue) ≡ false
+  -- 3/13: of kind 4 alone, held ticks plus b are B; here none is held and B is 2
+  pub less-budget : map (λ k. fit (stood (server k 0 5 2) [] 1 0 0 0 9 freshQueue)) (1 ∷ 2 ∷ 3 ∷ 4 ∷ []) ≡ true ∷ true ∷ true ∷ false ∷ []
+  pub full-budget : map (λ k. fit (stood (server k 0 5 2) [] 2 0 0 0 9 freshQueue)) (1 ∷ 2 ∷ 3 ∷ 4 ∷ []) ≡ true ∷ true ∷ true ∷ true ∷ []
   -- a model written over a state reads back, and the slots it does not reach stay
+  pub written-held :
+      modelOf (written (stood fine [] 1 0 0 0 9 freshQueue) (record { lefts = 0 ∷ []; queue = []; server = whole (stood fine [] 1 0 0 0 9 freshQueue .progress .server) (held 8 1 ∷ []); clock = 10 })) .server .returns
+      ≡ held 8 1 ∷ []
   pub written-back :
-      written (stood fine (1 ∷ 7 ∷ []) 2 0 0 0 9 (waiting 5 9)) (record { lefts = 2 ∷ []; queue = []; server = stood fine [] 1 0 0 0 9 freshQueue .progress .server; clock = 10 }) ≡
+      written (stood fine (1 ∷ 7 ∷ []) 2 0 0 0 9 (waiting 5 9)) (record { lefts = 2 ∷ []; queue = []; server = whole (stood fine [] 1 0 0 0 9 freshQueue .progress .server) []; clock = 10 }) ≡
       record {
         table = table (good ∷ []) 1 fine;
         progress = stood fine (2 ∷ 7 ∷ []) 1 0 0 0 10 freshQueue .progress;
         queue = record { requests = waiting 5 9 .requests; n = 0 };
+        returns = freshReturns;
       }
 
 pub limit-cases : LimitCases
@@ -149,6 +167,8 @@ limit-cases = record {
   deferrable-bad = refl;
   sporadic-bad = refl;
   background-bad = refl;
+  returning-fit = refl;
+  returning-bad = refl;
   other-kinds = refl;
   numbers = refl;
   values = refl;
@@ -171,5 +191,8 @@ limit-cases = record {
   full-fits = refl;
   waiting-past = refl;
   table-unfit = refl;
+  less-budget = refl;
+  full-budget = refl;
+  written-held = refl;
   written-back = refl;
 }

@@ -24,7 +24,7 @@ use Rattle.table.specs.declared.Refusal.{Refusal}
 use Rattle.table.specs.declared.Checked.{Checked}
 use Rattle.table.specs.Limits.{maxTasks, lastKind, taskTests, taskFits, firstBad, serverTests, backgroundTests, budgetTests, serverFits, checkServer, checkTasks}
 use Rattle.table.specs.Refusal.{passed, figures, groundWith, ground, noGround}
-use Rattle.table.specs.State.{tableCheck, tableFigures, leftFits, sporadicFits, serverStateFits, modelFits, fit}
+use Rattle.table.specs.State.{tableCheck, tableFigures, leftFits, sporadicFits, serverStateFits, modelFits, stateReturnsFit, fit}
 use Rattle.table.specs.Model.{taskSetOf, modelOf}
 pub use Rattle.table.specs.Model.{noTask}
 
@@ -72,7 +72,8 @@ server-limits s n e =
     by (suc zero) k e = budgeted 1 e
     by (suc (suc zero)) k e = budgeted 2 e
     by (suc (suc (suc zero))) k e = budgeted 3 e
-    by (suc (suc (suc (suc j)))) k e = absurd (omega arith)
+    by (suc (suc (suc (suc zero)))) k e = budgeted 4 e
+    by (suc (suc (suc (suc (suc j))))) k e = absurd (omega arith)
 
 -- ---- a table that passes refusals 1, 2 and 3
 pub record TableFacts (t : Table) : Type 0 where
@@ -156,6 +157,7 @@ pub record StateFacts (s : State) : Type 0 where
   pub server : Within (s .table .server) (s .progress .clock) (s .progress .server)
   pub waiting : s .queue .n ≤ maxWaiting
   pub requests : requestsFit (s .progress .clock) (waitingOf (s .queue)) ≡ true
+  pub returns : stateReturnsFit s ≡ true
 
 pub server-within : (s : Server) (clock : ℕ) (x : ServerState) → serverStateFits s clock x ≡ true → Within s clock x
 server-within s clock x e =
@@ -189,8 +191,9 @@ module _ (s : State) where
 
   pub fit-facts : fit s ≡ true → StateFacts s
   fit-facts e =
-      let a = and-split (passed (tableCheck (s .table)) && leb (s .queue .n) maxWaiting) (modelFits (taskSetOf (s .table)) (modelOf s)) e in
-      let b = and-split (passed (tableCheck (s .table))) (leb (s .queue .n) maxWaiting) (a .0) in
+      let a = and-split (passed (tableCheck (s .table)) && leb (s .queue .n) maxWaiting && stateReturnsFit s) (modelFits (taskSetOf (s .table)) (modelOf s)) e in
+      let d = and-split (passed (tableCheck (s .table)) && leb (s .queue .n) maxWaiting) (stateReturnsFit s) (a .0) in
+      let b = and-split (passed (tableCheck (s .table))) (leb (s .queue .n) maxWaiting) (d .0) in
       let r = and-split (clockFits && leftsFit && budgetFits) waitingFit (a .1) in
       let v = and-split (clockFits && leftsFit) budgetFits (r .0) in
       let c = and-split clockFits leftsFit (v .0) in
@@ -201,12 +204,14 @@ module _ (s : State) where
         server = server-within (s .table .server) (s .progress .clock) (s .progress .server) (v .1);
         waiting = leb-true _ _ (b .1);
         requests = r .1;
+        returns = d .1;
       }
 
   pub facts-fit : StateFacts s → fit s ≡ true
   facts-fit f =
-      and-join (passed (tableCheck (s .table)) && leb (s .queue .n) maxWaiting) (modelFits (taskSetOf (s .table)) (modelOf s))
-      (and-join (passed (tableCheck (s .table))) (leb (s .queue .n) maxWaiting) (f .passes) (le-leb _ _ (f .waiting)))
+      and-join (passed (tableCheck (s .table)) && leb (s .queue .n) maxWaiting && stateReturnsFit s) (modelFits (taskSetOf (s .table)) (modelOf s))
+      (and-join (passed (tableCheck (s .table)) && leb (s .queue .n) maxWaiting) (stateReturnsFit s)
+      (and-join (passed (tableCheck (s .table))) (leb (s .queue .n) maxWaiting) (f .passes) (le-leb _ _ (f .waiting))) (f .returns))
       (and-join (clockFits && leftsFit && budgetFits) waitingFit
       (and-join (clockFits && leftsFit) budgetFits (and-join clockFits leftsFit (le-leb _ _ (f .clock)) (f .lefts))
       (within-server (s .table .server) (s .progress .clock) (s .progress .server) (f .server)))

@@ -7,7 +7,7 @@ use lib.Dec.{leb, ltb, eqb}
 use Rattle.lists.specs.Tests.{between, every}
 use Rattle.server.specs.Limits.{maxTime}
 use Rattle.server.specs.declared.Server.{Server}
-use Rattle.server.specs.Kind.{Kind, background, polling, deferrable, sporadic, kindOf}
+use Rattle.server.specs.Kind.{Kind, background, polling, deferrable, sporadic, returning, kindOf}
 use Rattle.table.specs.declared.Task.{Task}
 use Rattle.table.specs.declared.Refusal.{Refusal}
 use Rattle.table.specs.declared.Checked.{Checked}
@@ -44,10 +44,12 @@ serverTests background s n = backgroundTests s n
 serverTests polling s n = budgetTests s n
 serverTests deferrable s n = budgetTests s n
 serverTests sporadic s n = budgetTests s n
+-- 3/13: "The server's limits .. are those of kinds 1 to 3"
+serverTests returning s n = budgetTests s n
 
--- "(0 background, 1 polling, 2 deferrable, 3 simple sporadic)": no other kind
+-- 3/13: "refusal 3 now begins at kind 5"
 abbrev pub lastKind : ℕ
-lastKind = 3
+lastKind = 4
 
 abbrev pub serverFits : Server → ℕ → Bool
 serverFits s n = leb (s .kind) lastKind && every (serverTests (kindOf (s .kind)) s n)

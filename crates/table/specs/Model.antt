@@ -5,7 +5,8 @@ use mathlib.Core.List.{List}
 use lib.ListN.{take}
 use Rattle.lists.specs.Lists.{overlay}
 use Rattle.server.specs.declared.Server.{Server}
-use Rattle.server.specs.declared.ServerState.{ServerState}
+use Rattle.server.specs.Returns.{heldOf, writtenReturns}
+use Rattle.server.specs.Whole.{Whole, whole}
 use Rattle.queue.specs.declared.Request.{Request}
 use Rattle.queue.specs.Queue.{waitingOf, queueWith}
 use Rattle.table.specs.declared.Task.{Task}
@@ -21,7 +22,7 @@ pub record TaskSet : Type 0 where
 pub record Model : Type 0 where
   pub lefts : List ℕ
   pub queue : List Request
-  pub server : ServerState
+  pub server : Whole
   pub clock : ℕ
 
 -- what stands past the end of the tasks
@@ -35,7 +36,7 @@ abbrev pub modelOf : State → Model
 modelOf s = record {
   lefts = take (s .table .n) (s .progress .left);
   queue = waitingOf (s .queue);
-  server = s .progress .server;
+  server = whole (s .progress .server) (heldOf (s .returns));
   clock = s .progress .clock;
 }
 
@@ -43,6 +44,7 @@ modelOf s = record {
 abbrev pub written : State → Model → State
 written s m = record {
   table = s .table;
-  progress = record { left = overlay (m .lefts) (s .progress .left); server = m .server; clock = m .clock };
+  progress = record { left = overlay (m .lefts) (s .progress .left); server = m .server .part; clock = m .clock };
   queue = queueWith (s .queue) (m .queue);
+  returns = writtenReturns (s .returns) (m .server .returns);
 }

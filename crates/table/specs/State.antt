@@ -11,6 +11,8 @@ use Rattle.server.specs.declared.Sporadic.{Sporadic}
 use Rattle.server.specs.declared.ServerState.{ServerState}
 use Rattle.server.specs.Kind.{kindOf}
 use Rattle.server.specs.Server.{freshServer}
+use Rattle.server.specs.Returns.{freshReturns}
+use Rattle.server.specs.Whole.{wholeFits}
 use Rattle.queue.specs.Queue.{maxWaiting, freshQueue, requestsFit}
 use Rattle.table.specs.declared.Task.{Task}
 use Rattle.table.specs.declared.Table.{Table}
@@ -27,6 +29,7 @@ freshState t = record {
   table = t;
   progress = record { left = replicate maxTasks 0; server = freshServer (kindOf (t .server .kind)) (t .server); clock = 0 };
   queue = freshQueue;
+  returns = freshReturns;
 }
 
 -- refusals 1, 2 and 3 of a table
@@ -57,12 +60,16 @@ serverStateFits s clock x = leb (x .budget) (s .budget) && sporadicFits clock (x
 abbrev pub modelFits : TaskSet → Model → Bool
 modelFits p m =
     leb (m .clock) lastClock && allWith leftFits (p .tasks) (m .lefts)
-    && serverStateFits (p .server) (m .clock) (m .server) && requestsFit (m .clock) (m .queue)
+    && serverStateFits (p .server) (m .clock) (m .server .part) && requestsFit (m .clock) (m .queue)
+
+-- 3/13: "A state of kind 4 is also unfit if .."
+abbrev pub stateReturnsFit : State → Bool
+stateReturnsFit s = wholeFits (kindOf (s .table .server .kind)) (s .table .server) (s .progress .clock) (s .progress .server .budget) (s .returns)
 
 -- "An 11 is a state whose table breaks 1 to 3, .. more than 64 waiting", or as above
 abbrev pub fit : State → Bool
 fit s =
-    passed (tableCheck (s .table)) && leb (s .queue .n) maxWaiting
+    passed (tableCheck (s .table)) && leb (s .queue .n) maxWaiting && stateReturnsFit s
     && modelFits (taskSetOf (s .table)) (modelOf s)
 
 -- Set-up checks 1, 2, 3. Its state is the table's fresh state; that of a refused table is unfit.

@@ -6,9 +6,12 @@ ghost use Rattle.lists.specs.Lists.{allWith};
 ghost use Rattle.lists.specs.Tests.{every};
 ghost use Rattle.table.specs.Limits.{maxTasks, taskFits, firstBad, budgetTests, backgroundTests, serverFits};
 ghost use mathlib.Core.Bool.{true};
+ghost use Rattle.server.specs.Kind.{kindOf};
+ghost use Rattle.server.specs.Whole.{wholeFits};
 ghost use Rattle.table.specs.Refusal.{number, passed, figures};
 ghost use Rattle.table.specs.State.{freshState, tableCheck, tableFigures, leftFits, serverStateFits, fit, setUpCall};
 use queue::Queue;
+use server::Returns;
 use server::Server;
 use server::ServerState;
 
@@ -47,12 +50,14 @@ pub struct Progress {
     pub clock: u32,
 }
 
-// The state is split by what changes: the table never, the progress in every tick, the queue when a request comes or is served.
+// The state is split by what changes: the table never, the progress in every tick, the queue when a request comes or is served, the
+// returns under kind 4 alone.
 #[repr(C)]
 pub struct State {
     pub table: Table,
     pub progress: Progress,
     pub queue: Queue,
+    pub returns: Returns,
 }
 
 // Why a call refuses, by document 01's words.
@@ -124,6 +129,7 @@ impl Table {
                 clock: 0,
             },
             queue: Queue::fresh(),
+            returns: Returns::fresh(),
         }
     }
 
@@ -186,7 +192,7 @@ fn background_fits(server: Server, n: u32) -> bool
     (server.place == n) & ((server.period == 0) & (server.budget == 0))
 }
 
-// "Kinds 1 to 3: s ≤ n, 1 ≤ B ≤ P ≤ 60,000."
+// "Kinds 1 to 3: s ≤ n, 1 ≤ B ≤ P ≤ 60,000." 3/13: kind 4 too.
 fn budget_fits(server: Server, n: u32) -> bool
     ensures { λ r. ⌜ r ≡ every (budgetTests server n) ⌝ }
 {
@@ -204,6 +210,7 @@ fn server_fits(server: Server, n: u32) -> bool
         1 => budget_fits(server, n),
         2 => budget_fits(server, n),
         3 => budget_fits(server, n),
+        4 => budget_fits(server, n),
         _ => false,
     }
 }
@@ -241,6 +248,10 @@ impl State {
         if !queue.fits(clock) {
             return false;
         }
+        let returns = self.returns;
+        if !returns_fit(server, clock, state, returns) {
+            return false;
+        }
         let tasks = table.tasks;
         let left = progress.left;
         lefts_fit(tasks, left, table.n)
@@ -254,6 +265,17 @@ fn server_state_fits(server: Server, clock: u32, state: ServerState) -> bool
     let x = state.sporadic;
     (state.budget <= server.budget)
         & ((x.tr <= clock) & (x.begin <= clock) & (x.nr <= Table::LAST_NR))
+}
+
+// Kind 4's further limits; of the other kinds nothing is asked.
+fn returns_fit(server: Server, clock: u32, state: ServerState, returns: Returns) -> bool
+    ensures { λ r. ⌜ r ≡ wholeFits (kindOf (server .kind)) server clock (state .budget) returns ⌝ }
+{
+    let kind = server.kind;
+    match kind {
+        4 => returns.fits(server, clock, state.budget),
+        _ => true,
+    }
 }
 
 // No "row's work above e", of the n tasks in use.

@@ -69,11 +69,26 @@ pub struct Queue {
 }
 
 #[repr(C)]
+#[derive(Clone, Copy, Debug, Default, PartialEq, Eq)]
+pub struct Stretch {
+    pub start: u32,
+    pub length: u32,
+}
+
+#[repr(C)]
+#[derive(Clone, Copy, Debug, Default, PartialEq, Eq)]
+pub struct Returns {
+    pub stretches: [Stretch; 32],
+    pub n: u32,
+}
+
+#[repr(C)]
 #[derive(Clone, Copy, Debug, PartialEq, Eq)]
 pub struct State {
     pub table: Table,
     pub progress: Progress,
     pub queue: Queue,
+    pub returns: Returns,
 }
 
 #[repr(C)]

@@ -1,6 +1,6 @@
 //! One library call, made on both sides and compared.
 
-use second::{Entry, Service, State, Table, Ticked};
+use second::{Entry, Returns, Service, State, Table, Ticked};
 
 use crate::abi::{self, Calls};
 use crate::convert::*;
@@ -228,7 +228,16 @@ pub fn same_state(second: &State, library: &State) -> Result<(), String> {
     for i in 0..second.queue.len() {
         same(&format!("queue slot {i}"), second.queue[i], library.queue[i])?;
     }
+    same_returns(&second.returns, &library.returns)?;
     same("table", second.table, library.table)
+}
+
+fn same_returns(second: &Returns, library: &Returns) -> Result<(), String> {
+    same("stretches held", second.held, library.held)?;
+    for i in 0..second.stretches.len() {
+        same(&format!("stretch slot {i}"), second.stretches[i], library.stretches[i])?;
+    }
+    Ok(())
 }
 
 fn same_service(second: &Service, library: &Service) -> Result<(), String> {
@@ -276,12 +285,42 @@ const STEPS: &[fn(&mut State)] = &[
     drop_first_row,
     |s| s.clock /= 2,
     |s| s.clock = s.clock.saturating_sub(1),
+    earlier,
     |s| (s.service.tr, s.service.begin) = (0, 0),
     |s| s.service.nr = 0,
     |s| (s.service.served, s.service.late) = (false, false),
     |s| (s.service.above, s.service.busy) = (false, false),
     |s| s.service.budget = s.service.budget.saturating_sub(1),
+    |s| s.returns = Returns::NONE,
+    first_stretch_comes_back,
+    last_stretch_comes_back,
 ];
+
+/// The clock and the stretches together.
+fn earlier(state: &mut State) {
+    let held = state.returns.held.min(32) as usize;
+    let first = state.returns.stretches[..held].iter().map(|stretch| stretch.start).min().unwrap_or(0);
+    state.clock -= first.min(state.clock);
+    state.returns.stretches[..held].iter_mut().for_each(|stretch| stretch.start -= first);
+}
+
+/// A fit state stays fit: what was held is budget again.
+fn first_stretch_comes_back(state: &mut State) {
+    if (1..=32).contains(&state.returns.held) {
+        let first = state.returns.stretches[0];
+        state.returns.stretches.copy_within(1.., 0);
+        state.returns.held -= 1;
+        state.service.budget = state.service.budget.saturating_add(first.length);
+    }
+}
+
+fn last_stretch_comes_back(state: &mut State) {
+    if (1..=32).contains(&state.returns.held) {
+        state.returns.held -= 1;
+        let last = state.returns.stretches[state.returns.held as usize];
+        state.service.budget = state.service.budget.saturating_add(last.length);
+    }
+}
 
 fn drop_first_row(state: &mut State) {
     if state.table.n > 1 && state.table.n <= 16 {
@@ -297,8 +336,9 @@ fn plain_requests(state: &mut State) {
 }
 
 fn clear_unused(state: &mut State) {
-    let (rows, waiting) = (state.table.n.min(16) as usize, state.waiting.min(64) as usize);
+    let (rows, waiting, held) = (state.table.n.min(16) as usize, state.waiting.min(64) as usize, state.returns.held.min(32) as usize);
     state.table.rows[rows..].fill(second::Row::default());
     state.left[rows..].fill(0);
     state.queue[waiting..].fill(second::Request::default());
+    state.returns.stretches[held..].fill(second::Stretch::default());
 }

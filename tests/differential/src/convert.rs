@@ -27,10 +27,12 @@ pub fn to_state(state: &second::State) -> abi::State {
     let [served, late, above, busy] = [v.served, v.late, v.above, v.busy].map(u32::from);
     let sporadic = abi::Sporadic { tr: v.tr, begin: v.begin, nr: v.nr, served, late, above, busy };
     let request = |r: second::Request| abi::Request { id: r.id, work: r.work, arrival: r.arrival };
+    let stretch = |s: second::Stretch| abi::Stretch { start: s.start, length: s.length };
     abi::State {
         table: to_table(&state.table),
         progress: abi::Progress { left: state.left, server: abi::ServerState { budget: v.budget, sporadic }, clock: state.clock },
         queue: abi::Queue { requests: state.queue.map(request), n: state.waiting },
+        returns: abi::Returns { stretches: state.returns.stretches.map(stretch), n: state.returns.held },
     }
 }
 
@@ -38,6 +40,7 @@ pub fn from_state(state: &abi::State) -> second::State {
     let p = state.progress;
     let s = p.server.sporadic;
     let request = |r: abi::Request| second::Request { id: r.id, work: r.work, arrival: r.arrival };
+    let stretch = |s: abi::Stretch| second::Stretch { start: s.start, length: s.length };
     second::State {
         table: from_table(&state.table),
         left: p.left,
@@ -54,6 +57,7 @@ pub fn from_state(state: &abi::State) -> second::State {
         clock: p.clock,
         queue: state.queue.requests.map(request),
         waiting: state.queue.n,
+        returns: second::Returns { stretches: state.returns.stretches.map(stretch), held: state.returns.n },
     }
 }
 

@@ -9,6 +9,7 @@ pub mod pair;
 pub mod plan;
 pub mod program;
 pub mod random;
+pub mod returns;
 pub mod shrink;
 pub mod standin;
 pub mod state;

@@ -1,7 +1,7 @@
 //! Pairs of random lists of request, tick and run calls, for one table and with equally many accepted ticks; refused calls are among them.
 
 use second::state::{CLOCK_LAST, QUEUE, WORK_MOST};
-use second::table::{BACKGROUND, ROWS};
+use second::table::{BACKGROUND, RETURNING, ROWS};
 
 use crate::abi::Table;
 use crate::convert::to_table;
@@ -42,7 +42,8 @@ pub struct Pair {
 pub fn random_pair(random: &mut Random) -> Pair {
     let table = to_table(&table(random));
     let ticks = if random.once_in(10) { random.from(200, 400) } else { random.from(20, 200) };
-    Pair { table, lists: [(); 2].map(|()| list(random, ticks)) }
+    let list = |()| if table.server.kind == RETURNING && random.once_in(3) { apart(random, ticks) } else { list(random, ticks) };
+    Pair { table, lists: [(); 2].map(list) }
 }
 
 /// Once in 30 a damaged table, which set-up refuses as a rule. Of the others about half have rows on both sides of the server.
@@ -55,6 +56,12 @@ fn table(random: &mut Random) -> second::Table {
         table.server.place = random.from(1, table.n - 1);
     }
     table
+}
+
+/// Requests of one tick that never meet: under kind 4 a stretch each.
+fn apart(random: &mut Random, ticks: u32) -> Vec<Call> {
+    let request = Call::Request { id: random.word(), work: 1 };
+    cut(&[request, Call::Tick, Call::Tick].repeat(ticks as usize), ticks)
 }
 
 /// A list without a request once in four, else with few or many.

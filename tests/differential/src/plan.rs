@@ -1,6 +1,6 @@
 //! Random plans, good and damaged, long and short.
 
-use second::table::{BACKGROUND, FIELD_MOST, ROWS};
+use second::table::{BACKGROUND, FIELD_MOST, RETURNING, ROWS};
 use second::{Row, Server, Table};
 
 use crate::random::Random;
@@ -71,7 +71,8 @@ const LETTERS: &[&str] = &["T", "S", "A", "R", "t", "s", "a", "r", "B", "X", "",
 
 pub fn plan(random: &mut Random) -> Vec<u8> {
     match random.below(1000) {
-        0..=499 => text(&good(random, 4, 14, 60)),
+        0..=469 => text(&good(random, 4, 14, 60)),
+        470..=499 => text(&many_stretches(random)),
         500..=569 => text(&good(random, 16, 60, 300)),
         570..=599 => text(&burst(random)),
         600..=619 => text(&wide(random)),
@@ -98,7 +99,7 @@ pub fn row(random: &mut Random, period: u32, share: u32) -> Row {
 }
 
 pub fn server(random: &mut Random, n: u32, period: u32, share: u32) -> Server {
-    let kind = random.pick(&[0, 1, 1, 2, 2, 3, 3, 3, 3]);
+    let kind = random.pick(&[0, 1, 1, 2, 2, 3, 3, 3, 3, 4, 4, 4]);
     if kind == BACKGROUND {
         return Server { kind, place: n, period: 0, budget: 0 };
     }
@@ -106,6 +107,13 @@ pub fn server(random: &mut Random, n: u32, period: u32, share: u32) -> Server {
     let most = if random.once_in(8) { period } else { period.div_ceil(share) };
     let budget = random.from(1, most);
     Server { kind, place: random.from(0, n), period, budget }
+}
+
+/// A period and a budget with room for more than the 32 stretches that kind 4 may hold, or just not.
+pub fn room_for_all(random: &mut Random, server: &mut Server) {
+    let other = random.from(65, 160);
+    server.period = random.pick(&[63, 64, 65, 66, other, other]);
+    server.budget = if random.once_in(4) { server.period } else { random.from(31, server.period) };
 }
 
 /// A table within its limits: light ones, which are mostly admitted, and heavy ones, which drop jobs.
@@ -149,6 +157,43 @@ fn good(random: &mut Random, rows: u32, period: u32, ticks: u32) -> Vec<String> 
         lines.push(format!("A,{tick},{},{work}", id(random)));
     }
     lines.push(format!("R,{ticks}"));
+    lines
+}
+
+/// A server of kind 4 that serves single ticks, with a tick or more between them: more stretches than it may hold are wanted. Either the
+/// requests come so, or one waits all the time and a row above has every other tick or so.
+fn many_stretches(random: &mut Random) -> Vec<String> {
+    let n = random.from(1, 3);
+    let mut table = Table { n, ..Table::default() };
+    table.rows[..n as usize].fill_with(|| row(random, 200, 12));
+    let by_row = random.once_in(3);
+    table.server = Server { kind: RETURNING, place: if by_row { 1 } else { random.from(0, n / 2) }, period: 0, budget: 0 };
+    room_for_all(random, &mut table.server);
+    if by_row {
+        let period = random.pick(&[2, 2, 2, 3]);
+        table.rows[0] = Row { phase: random.from(0, 9), period, exec: random.from(1, period - 1), deadline: period };
+    }
+    let mut lines = table_lines(&table);
+    lines.extend(if by_row { long_requests(random) } else { single_requests(random) });
+    lines.push(format!("R,{}", random.from(100, 350)));
+    lines
+}
+
+fn long_requests(random: &mut Random) -> Vec<String> {
+    let tick = random.from(0, 9);
+    (0..random.from(1, 3)).map(|i| format!("A,{},{i},{}", tick + 7 * i, random.from(30, 200))).collect()
+}
+
+/// Mostly of one tick each and every other tick, then a few at once.
+fn single_requests(random: &mut Random) -> Vec<String> {
+    let mut tick = random.from(0, 9);
+    let mut lines = Vec::new();
+    for i in 0..random.from(31, 50) {
+        let work = if random.once_in(12) { random.from(2, 4) } else { 1 };
+        lines.push(format!("A,{tick},{i},{work}"));
+        tick += work + if random.once_in(12) { random.from(0, 3) } else { 1 };
+    }
+    lines.extend((0..random.from(0, 3)).map(|_| format!("A,{tick},{},{}", id(random), random.from(1, 9))));
     lines
 }
 

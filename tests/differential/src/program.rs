@@ -9,8 +9,19 @@ const FOLDER: &str = "target/differential";
 /// How often each thing was seen.
 pub type Seen = BTreeMap<String, u64>;
 
-pub fn words(seen: &Seen) -> String {
+fn words(seen: &Seen) -> String {
     seen.iter().map(|(what, times)| format!("{what} {times}")).collect::<Vec<_>>().join(", ")
+}
+
+/// Says what was seen. From `enough` cases on, each thing `to_reach` is to be among it, or the comparison sees less than it should.
+pub fn all_reached(program: &str, seen: &Seen, to_reach: &[&str], count: u64, enough: u64) -> bool {
+    println!("{program}: {}", words(seen));
+    let missed: Vec<_> = to_reach.iter().copied().filter(|&what| !seen.contains_key(what)).collect();
+    let reached = count < enough || missed.is_empty();
+    if !reached {
+        println!("{program}: never reached: {}", missed.join("; "));
+    }
+    reached
 }
 
 /// [COUNT] [SEED]: `count` and the clock's second if not given.

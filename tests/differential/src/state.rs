@@ -1,11 +1,13 @@
-//! Random tables and states: fit ones, fit ones at a limit's edge, and ones unfit in each way that refusal 11 lists.
+//! Random tables and states: fit ones, fit ones at a limit's edge, and ones unfit in each way that refusal 11 lists,
+//! those of kind 4 apart.
 
 use second::state::{CLOCK_LAST, NEXT_LAST, QUEUE, WORK_MOST};
-use second::table::{BACKGROUND, FIELD_MOST, ROWS};
-use second::{Request, Row, Service, State, Table};
+use second::table::{BACKGROUND, FIELD_MOST, RETURNING, ROWS};
+use second::{Request, Row, Server, Service, State, Table};
 
 use crate::plan::{self, EDGES};
 use crate::random::Random;
+use crate::returns;
 
 /// A table within its limits, with anything in the slots that it does not use.
 pub fn table(random: &mut Random) -> Table {
@@ -13,6 +15,9 @@ pub fn table(random: &mut Random) -> Table {
     // Trying every length of long deadlines takes milliseconds: seldom.
     let period = if random.once_in(400) { FIELD_MOST } else { random.pick(&[3, 8, 20, 60]) };
     let mut table = plan::table(random, rows, period);
+    if table.server.kind == RETURNING && random.once_in(3) {
+        plan::room_for_all(random, &mut table.server);
+    }
     for slot in table.n as usize..ROWS {
         table.rows[slot] = any_row(random);
     }
@@ -75,11 +80,37 @@ fn past(random: &mut Random, clock: u32, period: u32) -> u32 {
     }
 }
 
-/// Any fit state, odd ones included: rows open before their phase, marks that no run would leave.
+/// Any fit state, odd ones included: rows open before their phase, marks and returns that no run would leave.
 pub fn fit(random: &mut Random) -> State {
     let table = table(random);
+    let clock = clock(random, &table);
+    fit_at(random, table, clock)
+}
+
+/// A fit state of kind 4 that holds so many stretches, in a server that has room for them; a period has passed.
+pub fn returning(random: &mut Random, count: u32) -> State {
+    let mut table = table(random);
+    let least = (2 * count).max(2) - 1;
+    let period = least + random.pick(&[0, 1, 2, 20, 60]);
+    let place = if random.once_in(2) { 0 } else { table.server.place };
+    table.server = Server { kind: RETURNING, place, period, budget: random.from(count.max(1), period) };
+    let clock = clock(random, &table).max(period + random.from(1, 3));
+    let mut state = fit_at(random, table, clock);
+    returns::fill(random, &mut state, count);
+    state
+}
+
+/// A state of kind 4 that one clause of its own makes unfit.
+pub fn broken(random: &mut Random) -> State {
+    let (damage, count) = returns::damage_and_count(random);
+    let mut state = returning(random, count);
+    damage(random, &mut state);
+    state
+}
+
+fn fit_at(random: &mut Random, table: Table, clock: u32) -> State {
     let mut state = State::set_up(table).expect("a table within its limits");
-    state.clock = clock(random, &table);
+    state.clock = clock;
     for (i, left) in state.left.iter_mut().enumerate() {
         *left = match (i < table.n as usize, random.once_in(2)) {
             (true, true) => 0,
@@ -89,7 +120,17 @@ pub fn fit(random: &mut Random) -> State {
     }
     state.service = service(random, &state);
     fill_queue(random, &mut state);
+    state.returns = returns::any(random);
+    refill(random, &mut state);
     state
+}
+
+/// Returns that fit, where they are asked for.
+fn refill(random: &mut Random, state: &mut State) {
+    if state.table.server.kind == RETURNING {
+        let count = returns::count(random);
+        returns::fill(random, state, count);
+    }
 }
 
 fn service(random: &mut Random, state: &State) -> Service {
@@ -139,13 +180,25 @@ pub fn edge(random: &mut Random) -> State {
         1 => grow_queue(random, &mut state, QUEUE),
         2 => one_waiting(random, &mut state).work = random.pick(&[1, WORK_MOST]),
         3 => set_arrival(random, &mut state, 0),
-        4 => state.service.budget = state.table.server.budget,
-        5 => state.clock = CLOCK_LAST,
+        4 => whole_budget(&mut state),
+        5 => last_clock(random, &mut state),
         6 => state.service.tr = state.clock,
         7 => state.service.begin = state.clock,
         _ => state.service.nr = NEXT_LAST,
     }
     state
+}
+
+fn whole_budget(state: &mut State) {
+    state.service.budget = state.table.server.budget;
+    if state.table.server.kind == RETURNING {
+        state.returns.held = 0;
+    }
+}
+
+fn last_clock(random: &mut Random, state: &mut State) {
+    state.clock = CLOCK_LAST;
+    refill(random, state);
 }
 
 /// A state that one ground of refusal 11 holds of, by one step past the edge or by any distance.

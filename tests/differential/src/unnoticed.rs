@@ -11,6 +11,8 @@ use crate::pair::{count, cut, Call, Pair};
 pub struct Ticked {
     pub entry: Entry,
     pub dropped: [bool; ROWS],
+    /// The stretches held before it.
+    pub held: u32,
 }
 
 impl Ticked {
@@ -118,7 +120,7 @@ impl Player<'_> {
         must(clock as usize == u, || format!("tick {u} has clock {clock} before it"))?;
         let rows = dropped.iter().filter(|&&dropped| dropped).count();
         must(entry.drops as usize == rows, || format!("tick {u} reports {} drops, {rows} rows are dropped in it", entry.drops))?;
-        self.played.ticks.push(Ticked { entry, dropped });
+        self.played.ticks.push(Ticked { entry, dropped, held: before.returns.n });
         Ok(())
     }
 }

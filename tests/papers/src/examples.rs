@@ -1,5 +1,5 @@
 //! The worked examples of documents 000, 001, 002 and 003 that the rules cover, each as a plan and as the lines that
-//! `schedule` prints if what the document says is so.
+//! `schedule` prints if what the document says is so. A sporadic server's are also under kind 4, which gives back tick by tick.
 
 use std::path::Path;
 
@@ -56,6 +56,18 @@ pub const EXAMPLES: &[Example] = &[
         differs: "the schedule is in figures that the texts do not hold: there is nothing to compare; the rules give responses 2.5, 7 and 3.5",
     },
     Example {
+        plan: "000-returning",
+        source: "000, SpSL sporadic server with RM, under kind 4: the same tasks, server and jobs, and 0.5 at 6.5; a tick is 0.5",
+        agrees: &[(
+            "it preserves unconsumed chunks, and consumes its budget only when it executes (C2): the first job leaves 0.5 of the 1.5, which serves the fourth at 6.5",
+            &["X,7,A,1,0", "X,10,A,1,0", "F,10,1,5", "X,11,T,2,0", "X,12,T,0,0", "X,13,A,4,0", "F,13,4,1"],
+        )],
+        differs: "the schedule is in figures that the text does not hold. SpSL gives a chunk back whole, P after its te, and te may lie before the chunk's first use: by \
+                  its rules the first job's 1 comes back at 8 (BEGIN 3 and P 5). Kind 4 gives each tick back P after its own use: 0.5 at 8.5 and 0.5 at 10; and \
+                  it joins nothing where the periodic tasks wake (R3b). Its responses are 2.5, 0.5, 8 and 6.5, in the order of finishing; those of kind 3, which \
+                  lets the 0.5 lapse at 5.5, are 2.5, 3.5, 7.5 and 3.5",
+    },
+    Example {
         plan: "001-deferrable-miss",
         source: "001, deferrable server (2, 4), task (2, 5), requests of 2 at 0, 2, 10, 12, 16",
         agrees: &[("the task misses its deadline at 15", &["X,14,T,0,0", "X,15,T,0,1"])],
@@ -98,6 +110,28 @@ pub const EXAMPLES: &[Example] = &[
         ],
         differs: "002 gives back what was consumed, tA + P after; 004's simple server gives back the whole budget, and lets it lapse while idle; \
                   here each request takes the whole budget at once, so the two agree",
+    },
+    Example {
+        plan: "002-returning",
+        source: "002, the sporadic server's example under kind 4",
+        agrees: &[
+            ("at 0 T1; at 2 the first request preempts it and consumes the whole capacity", &["X,0,T,0,0", "X,1,T,0,0", "X,2,A,1,0", "X,3,A,1,0", "F,3,1,2", "X,4,T,0,0"]),
+            ("the second arrives at 7, but the capacity is 0", &["X,7,T,1,0", "X,8,T,1,0", "X,9,I,0,0"]),
+            ("at 10 = 2 + 8 capacity is replenished, and the second consumes it", &["X,10,A,2,0", "X,11,A,2,0", "F,11,2,5"]),
+        ],
+        differs: "002 gives the 2 of a request back together, at RT1 = 10 and RT2 = 18; kind 4 gives 1 back at 10 and 1 at 11, then 1 at 18 and 1 at 19. The second \
+                  request uses the first two as they come, so the ticks are 002's, and those of kind 3 (002-sporadic), which gives the whole budget back at 10",
+    },
+    Example {
+        plan: "002-returning-parts",
+        source: "002, the sporadic server's rule RT = tA + P on the same tasks under kind 4; the requests are not 002's: 1 at 2, 1 at 5, 2 at 9",
+        agrees: &[
+            ("it preserves the capacity until a request occurs: the second is served at once", &["X,2,A,1,0", "F,2,1,1", "X,3,T,0,0", "X,5,A,2,0", "F,5,2,1"]),
+            ("RA1 = 1 at RT1 = 2 + 8", &["X,9,I,0,0", "X,10,A,3,0", "X,11,T,0,0"]),
+            ("RA2 = 1 at RT2 = 5 + 8", &["X,12,T,0,0", "X,13,A,3,0", "F,13,3,5"]),
+        ],
+        differs: "kind 3 lets the second tick of budget lapse at 3, and gives the whole budget back at 10: its responses are 1, 6 and 10. A request whose service a row \
+                  above breaks would have both parts back at tA + P by 002, each at its own time by kind 4; 002's server is on top, and its example has no such request",
     },
 ];
 

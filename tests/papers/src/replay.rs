@@ -62,8 +62,8 @@ impl Library {
 
     /// The budget between steps 3 and 4 of the next tick, asked of the library itself: a copy of the state is ticked with one more
     /// request waiting, so long that the tick does not end it. Replenishment does not look at the queue; and where a request waits before
-    /// and after the tick, a budget falls by one if a request has the tick, and in no other way: no poller finds its queue empty, and a
-    /// sporadic server with budget does not idle. So what was there is what is left and the one that was taken.
+    /// and after the tick, a budget falls by one if a request has the tick, and in no other way: no poller finds its queue empty, a
+    /// sporadic server with budget does not idle, and kind 4's falls by service alone. So what was there is what is left and the one that was taken.
     pub fn budget_within(&self) -> Result<u32, u32> {
         let tick = self.ticked(self.presented(0, WORK_MOST)?)?;
         Ok(tick.state.progress.server.budget + (tick.kind == 2) as u32)

@@ -30,6 +30,13 @@ fn spoilt_numbers_are_noticed() {
     no_faults(beside::check_spoils(Path::new("."), CALLS));
 }
 
+/// What the example says of document 002's ticks under kinds 3 and 4.
+#[test]
+fn kinds_3_and_4_have_the_ticks_of_002() {
+    let output = |name: &str| papers::read(Path::new("."), &format!("{name}.out"));
+    assert_eq!(output("002-returning"), output("002-sporadic"));
+}
+
 /// What calls show of the budget between steps 3 and 4 is what the second implementation has there, in any fit state.
 #[test]
 fn budget_within_a_tick() {

@@ -19,7 +19,7 @@ fn row_term(length: u64, row: &Row) -> u64 {
 fn server_term(length: u64, server: &Server) -> u64 {
     let (period, budget) = (server.period as u64, server.budget as u64);
     match server.kind {
-        POLLING | SPORADIC => length.div_ceil(period) * budget,
+        POLLING | SPORADIC | RETURNING => length.div_ceil(period) * budget,
         // A deferrable server may spend one budget just before a replenishment: 004's extra B.
         DEFERRABLE => budget + length.saturating_sub(budget).div_ceil(period) * budget,
         _ => 0,

@@ -1,6 +1,7 @@
 //! The state, its fresh value, its fitness, and requests.
 
 use crate::refusal::*;
+use crate::returning::Returns;
 use crate::table::*;
 use crate::Refused;
 
@@ -41,6 +42,8 @@ pub struct State {
     pub clock: u32,
     pub queue: [Request; QUEUE],
     pub waiting: u32,
+    /// Belongs to kind 4 and stays unchanged under the others, whatever it holds.
+    pub returns: Returns,
 }
 
 impl State {
@@ -49,7 +52,8 @@ impl State {
         table.check()?;
         // Kind 0 has B = 0, so "b = B, of kind 0 it has b = 0" is one assignment.
         let service = Service { budget: table.server.budget, ..Service::default() };
-        Ok(State { table, left: [0; ROWS], service, clock: 0, queue: [Request::default(); QUEUE], waiting: 0 })
+        let queue = [Request::default(); QUEUE];
+        Ok(State { table, left: [0; ROWS], service, clock: 0, queue, waiting: 0, returns: Returns::NONE })
     }
 
     /// The requests that wait; only for a state with at most 64.
@@ -59,7 +63,7 @@ impl State {
 
     /// Whether no ground of refusal 11 holds.
     pub fn is_fit(&self) -> bool {
-        self.table.check().is_ok() && self.rows_fit() && self.queue_fits() && self.times_fit()
+        self.table.check().is_ok() && self.rows_fit() && self.queue_fits() && self.times_fit() && self.returns_fit()
     }
 
     fn rows_fit(&self) -> bool {
@@ -76,6 +80,12 @@ impl State {
             && self.service.tr <= self.clock
             && self.service.begin <= self.clock
             && self.service.nr <= NEXT_LAST
+    }
+
+    /// "A state of kind 4 is also unfit if its held ticks plus b differ from B", or for its stretches; only for a budget up to B.
+    fn returns_fit(&self) -> bool {
+        let server = self.table.server;
+        server.kind != RETURNING || self.returns.fit(self.clock, server.period, server.budget - self.service.budget)
     }
 
     /// Presents a request at the current tick; 11, 4, 5.

@@ -10,6 +10,8 @@ pub const BACKGROUND: u32 = 0;
 pub const POLLING: u32 = 1;
 pub const DEFERRABLE: u32 = 2;
 pub const SPORADIC: u32 = 3;
+/// Gives back tick by tick (document 02, 3/13).
+pub const RETURNING: u32 = 4;
 
 #[derive(Clone, Copy, Debug, Default, PartialEq, Eq)]
 pub struct Row {
@@ -47,11 +49,11 @@ impl Row {
 }
 
 impl Server {
-    /// "Kinds 1 to 3: s <= n, 1 <= B <= P <= 60,000. Kind 0: s = n, P = B = 0."
+    /// "Kinds 1 to 3: s <= n, 1 <= B <= P <= 60,000. Kind 0: s = n, P = B = 0." Kind 4 has the limits of kinds 1 to 3 (document 02, 3/13).
     pub fn in_limits(&self, n: u32) -> bool {
         match self.kind {
             BACKGROUND => self.place == n && self.period == 0 && self.budget == 0,
-            POLLING | DEFERRABLE | SPORADIC => {
+            POLLING | DEFERRABLE | SPORADIC | RETURNING => {
                 self.place <= n && 1 <= self.budget && self.budget <= self.period && self.period <= FIELD_MOST
             }
             _ => false,

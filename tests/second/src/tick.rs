@@ -139,6 +139,7 @@ impl State {
                 }
             }
             SPORADIC => self.replenish_sporadic(opened),
+            RETURNING => self.service.budget += self.returns.give_back(self.clock, self.table.server.period),
             _ => {}
         }
     }
@@ -166,7 +167,7 @@ impl State {
         if let Some(i) = opened.above {
             return Occupant::Row(i);
         }
-        if self.waiting > 0 && self.service.budget > 0 {
+        if self.waiting > 0 && self.eligible() {
             return Occupant::Served;
         }
         if let Some(i) = opened.below {
@@ -176,6 +177,11 @@ impl State {
             return Occupant::Background;
         }
         Occupant::Idle
+    }
+
+    /// A budget, and under kind 4 a place to hold the tick's return.
+    fn eligible(&self) -> bool {
+        self.service.budget > 0 && (self.table.server.kind != RETURNING || self.returns.has_room(self.clock))
     }
 
     /// The occupant as the record names it.
@@ -216,6 +222,7 @@ impl State {
             POLLING => self.consume_polling(above, served, empty),
             DEFERRABLE => self.service.budget -= served as u32,
             SPORADIC => self.consume_sporadic(opened, served),
+            RETURNING => self.consume_returning(served),
             _ => {}
         }
     }
@@ -226,6 +233,14 @@ impl State {
         let left_empty = served && self.waiting == 0;
         if found_empty || left_empty {
             self.service.budget = 0;
+        }
+    }
+
+    /// "b starts at B and falls only by service."
+    fn consume_returning(&mut self, served: bool) {
+        if served {
+            self.service.budget -= 1;
+            self.returns.serve(self.clock);
         }
     }
 

@@ -31,7 +31,7 @@ fn set_up_gives_the_index() {
     let mut bad = table();
     bad.rows[1].exec = 8;
     assert_eq!(State::set_up(bad), Err(Refused { number: BAD_ROW, index: 1 }));
-    bad.server.kind = 4;
+    bad.server.kind = 5;
     assert_eq!(admit(&bad), Err(Refused { number: BAD_ROW, index: 1 }));
     bad.n = 1;
     assert_eq!(admit(&bad), Err(Refused { number: BAD_SERVER, index: 0 }));
@@ -45,7 +45,7 @@ fn unfit_in_each_way() {
         |s| s.table.n = 0,
         |s| s.table.n = u32::MAX,
         |s| s.table.rows[1].exec = 0,
-        |s| s.table.server.kind = 4,
+        |s| s.table.server.kind = 5,
         |s| s.left[0] = 3,
         |s| s.left[1] = 2,
         |s| s.waiting = 65,

@@ -9,7 +9,7 @@ use lib.ListN.{length, take, getD}
 use borrow.Author.Tests.{ltb-true}
 use Rattle.lists.specs.Tests.{never}
 use Rattle.server.specs.declared.Server.{Server}
-use Rattle.server.specs.Kind.{Kind, background, polling, deferrable, sporadic, kindOf}
+use Rattle.server.specs.Kind.{Kind, background, polling, deferrable, sporadic, returning, kindOf}
 use Rattle.table.specs.declared.Task.{Task}
 use Rattle.table.specs.declared.Table.{Table}
 use Rattle.table.specs.Limits.{maxTasks}
@@ -41,19 +41,22 @@ server-sound s n l = by (s .kind) (l .some)
     by (suc zero) some = omega (arith, some (omega arith), l .within)
     by (suc (suc zero)) some = (omega (arith, some (omega arith), l .within), l .within)
     by (suc (suc (suc zero))) some = (omega (arith, some (omega arith), l .within), some (omega arith))
-    by (suc (suc (suc (suc k)))) some = tt
+    by (suc (suc (suc (suc zero)))) some = omega (arith, some (omega arith), l .within)
+    by (suc (suc (suc (suc (suc k))))) some = tt
 
 own-some : (k : Kind) (p : TaskSet) → exact k ≡ true → kindAt p ≡ k → serverAdmitted (kindAt p) (serverBound p) ≡ true → 0 < ownBound p
 own-some background p e q h = never refl e
 own-some polling p e q h = ltb-true 0 (ownBound p) (sym (ap (λ (k : Kind). serverAdmitted k (serverBoundBy k p)) q) ∙ h)
 own-some deferrable p e q h = ltb-true 0 (ownBound p) (sym (ap (λ (k : Kind). serverAdmitted k (serverBoundBy k p)) q) ∙ h)
 own-some sporadic p e q h = never refl e
+own-some returning p e q h = never refl e
 
 exact-plain : (k : Kind) → exact k ≡ true → alone k ≡ false
 exact-plain background e = never refl e
 exact-plain polling e = refl
 exact-plain deferrable e = refl
 exact-plain sporadic e = never refl e
+exact-plain returning e = never refl e
 
 -- ---- the list of items
 pub record Good (t : Table) : Type 0 where

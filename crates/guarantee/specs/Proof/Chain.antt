@@ -7,10 +7,11 @@ use mathlib.Core.List.{List, [], _∷_}
 use borrow.Author.Tests.{ltb-true}
 use lib.Dec.{ltb}
 use Rattle.lists.specs.Tests.{never, and-split}
-use Rattle.server.specs.Kind.{background, polling, deferrable, sporadic}
+use Rattle.server.specs.Kind.{background, polling, deferrable, sporadic, returning}
 use Rattle.server.specs.Account.{Bits, After}
 use Rattle.server.specs.SupplyPolling.{Polled, polling-next, polling-supply, polling-fresh}
 use Rattle.server.specs.SupplyDeferrable.{Deferred, deferrable-next, deferrable-supply, deferrable-fresh}
+use Rattle.server.specs.SupplyReturning.{Returned, returning-next, returning-supply, returning-fresh}
 use Rattle.server.specs.SupplySporadic.{Spread, sporadic-next, sporadic-supply, sporadic-fresh}
 use Rattle.guarantee.specs.Proof.Items.{Item, task, server, Cell, Cells, start, wants, finish, fresh, later, taken, chain, freshAll, term, itemsDemand}
 use Rattle.guarantee.specs.Proof.Jobs.{Job, job-next, job-supply}
@@ -18,10 +19,11 @@ use Rattle.guarantee.specs.Proof.Jobs.{Job, job-next, job-supply}
 -- ---- one clause for each kind: the account, the limits, and what the tick must say of the others
 unfoldable pub Acc : (x : Item) → Cell x → ℕ → ℕ → ℕ → ℕ → Type 0
 Acc (task x) c t from g y = Job x c t from g y
-Acc (server background s) c t from g y = (c .budget ≡ 0) × (g ≡ 0) × (y ≡ 0)
-Acc (server polling s) c t from g y = Polled s c t from g y
-Acc (server deferrable s) c t from g y = Deferred s c t from g y
-Acc (server sporadic s) c t from g y = Spread s c t from g y
+Acc (server background s) c t from g y = (c .part .budget ≡ 0) × (g ≡ 0) × (y ≡ 0)
+Acc (server polling s) c t from g y = Polled s (c .part) t from g y
+Acc (server deferrable s) c t from g y = Deferred s (c .part) t from g y
+Acc (server sporadic s) c t from g y = Spread s (c .part) t from g y
+Acc (server returning s) c t from g y = Returned s c t from g y
 
 abbrev pub Sound : Item → Type 0
 Sound (task x) = 0 < x .period
@@ -29,6 +31,7 @@ Sound (server background s) = Unit {0}
 Sound (server polling s) = 0 < s .period
 Sound (server deferrable s) = (0 < s .period) × (s .budget ≤ s .period)
 Sound (server sporadic s) = (0 < s .period) × (0 < s .budget)
+Sound (server returning s) = 0 < s .period
 
 -- a sporadic server wants the window to end where no task is open; polling and deferrable ones may have work left there
 unfoldable pub Lively : (x : Item) → Bool → Bool → Bool → Cell x → Type 0
@@ -37,6 +40,7 @@ Lively (server background s) busy live free c = Unit {0}
 Lively (server polling s) busy live free c = live ≡ true
 Lively (server deferrable s) busy live free c = live ≡ true
 Lively (server sporadic s) busy live free c = (live ≡ busy) × (free ≡ false → busy ≡ true)
+Lively (server returning s) busy live free c = live ≡ true
 
 pub item-next : (x : Item) → Sound x → (busy live free : Bool) (w : Bits) (t from g y : ℕ) (c : Cell x) → Lively x busy live free (start x t busy c) →
     Acc x c t from g y →
@@ -50,20 +54,22 @@ item-next (server background s) h busy live free w t from g y c l a = record {
   again = λ _. (a .0, refl, refl);
   calm = λ _. refl;
   pay = omega (arith, a .1, a .2);
-  used = λ _ _ q. absurd (omega (arith, a .0, ltb-true 0 (c .budget) (and-split (w .waits) (ltb 0 (c .budget)) q .1)));
+  used = λ _ _ q. absurd (omega (arith, a .0, ltb-true 0 (c .part .budget) (and-split (w .waits) (ltb 0 (c .part .budget)) q .1)));
   idle = λ _ q. absurd (omega arith);
 }
-item-next (server polling s) h busy live free w t from g y c l a = polling-next s h busy live free w t from g y c l a
-item-next (server deferrable s) h busy live free w t from g y c l a = deferrable-next s (h .0) busy live free w t from g y c l a
-item-next (server sporadic s) h busy live free w t from g y c l a = rw (l .0) (sporadic-next s (h .0) busy free w t from g y c (l .1) a)
+item-next (server polling s) h busy live free w t from g y c l a = polling-next s h busy live free w t from g y (c .part) l a
+item-next (server deferrable s) h busy live free w t from g y c l a = deferrable-next s (h .0) busy live free w t from g y (c .part) l a
+item-next (server sporadic s) h busy live free w t from g y c l a = rw (l .0) (sporadic-next s (h .0) busy free w t from g y (c .part) (l .1) a)
+item-next (server returning s) h busy live free w t from g y c l a = returning-next s h busy live free w t from g y c l a
 
 pub item-supply : (x : Item) → Sound x → (c : Cell x) (t from g y n : ℕ) → Acc x c t from g y → t ≤ from + n → g ≤ term x n
 unfolding Acc
 item-supply (task x) h c t from g y n a b = job-supply x h c t from g y n a b
 item-supply (server background s) h c t from g y n a b = omega (arith, a .1)
-item-supply (server polling s) h c t from g y n a b = polling-supply s h c t from g y n a b
-item-supply (server deferrable s) h c t from g y n a b = deferrable-supply s (h .0) c t from g y n a b
-item-supply (server sporadic s) h c t from g y n a b = sporadic-supply s (h .0) c t from g y n a b
+item-supply (server polling s) h c t from g y n a b = polling-supply s h (c .part) t from g y n a b
+item-supply (server deferrable s) h c t from g y n a b = deferrable-supply s (h .0) (c .part) t from g y n a b
+item-supply (server sporadic s) h c t from g y n a b = sporadic-supply s (h .0) (c .part) t from g y n a b
+item-supply (server returning s) h c t from g y n a b = returning-supply s h c t from g y n a b
 
 pub item-fresh : (x : Item) → Sound x → Acc x (fresh x) 0 0 0 0
 unfolding Acc
@@ -72,6 +78,7 @@ item-fresh (server background s) h = (refl, refl, refl)
 item-fresh (server polling s) h = polling-fresh s
 item-fresh (server deferrable s) h = deferrable-fresh s (h .1)
 item-fresh (server sporadic s) h = sporadic-fresh s (h .1)
+item-fresh (server returning s) h = returning-fresh s
 
 -- ---- the list
 abbrev pub SoundAll : List Item → Type 0

@@ -8,9 +8,8 @@ use lib.Dec.{eqb, eqb·zero-suc, eqb·suc-zero, eqb·suc-suc}
 use lib.ListN.{length, take, getD, set}
 use borrow.Author.Tests.{ltb-true}
 use Rattle.lists.specs.Tests.{never}
-use Rattle.server.specs.declared.ServerState.{ServerState}
 use Rattle.server.specs.Kind.{Kind}
-use Rattle.server.specs.Server.{eligible, servesIdle}
+use Rattle.server.specs.Server.{servesIdle}
 use Rattle.queue.specs.declared.Request.{Request}
 use Rattle.table.specs.declared.Task.{Task}
 use Rattle.rules.specs.declared.Turn.{Turn}
@@ -37,10 +36,10 @@ first-works (l ∷ ls) e i = go (isOpen l) refl e i (λ q j. first-works ls q j)
     go false q e (suc i) ih = rw (eqb·suc-suc (firstOpen ls) i) (ih e i)
 
 -- the task that has the tick loses one tick of work, and no other does
-pub task-step : (k : Kind) (s : ℕ) (waiting : Bool) (x : ServerState) (ls : List ℕ) (q : List Request) (d i : ℕ) →
+pub task-step : (k : Kind) (s : ℕ) (waiting x : Bool) (ls : List ℕ) (q : List Request) (d i : ℕ) →
     let turn : Turn = choose k (anyOpen (take s ls)) (anyOpen ls) waiting x (firstOpen ls) in
     cond (byTask i (entryBy (occupantOf turn q) d)) 1 0 + nth (workedTasks turn ls) i ≡ nth ls i
-task-step k s waiting x ls q d i = go (anyOpen (take s ls)) (some s ls) (eligible waiting x) (anyOpen ls) (λ o. first-works ls o i) (servesIdle k && waiting)
+task-step k s waiting x ls q d i = go (anyOpen (take s ls)) (some s ls) x (anyOpen ls) (λ o. first-works ls o i) (servesIdle k && waiting)
   where
     some : (s : ℕ) (ls : List ℕ) → anyOpen (take s ls) ≡ true → anyOpen ls ≡ true
     some zero ls e = never refl e
@@ -63,9 +62,9 @@ task-step k s waiting x ls q d i = go (anyOpen (take s ls)) (some s ls) (eligibl
     go false h false false f false = omega arith
 
 -- under a kind that serves no idle tick, a request has the tick where the server serves by its budget
-pub request-step : (k : Kind) (above busy waiting : Bool) (x : ServerState) (first d : ℕ) (q : List Request) → servesIdle k ≡ false →
-    byRequest (entryBy (occupantOf (choose k above busy waiting x first) q) d) ≡ (not above && eligible waiting x)
-request-step k above busy waiting x first d q h = go above (eligible waiting x) busy (servesIdle k) h waiting
+pub request-step : (k : Kind) (above busy waiting x : Bool) (first d : ℕ) (q : List Request) → servesIdle k ≡ false →
+    byRequest (entryBy (occupantOf (choose k above busy waiting x first) q) d) ≡ (not above && x)
+request-step k above busy waiting x first d q h = go above x busy (servesIdle k) h waiting
   where
     go : (above e busy idle : Bool) → idle ≡ false → (waiting : Bool) →
         byRequest (entryBy (occupantOf (cond above (Turn.Task first) (cond e Turn.Budget

@@ -1,6 +1,6 @@
 -- From ticks to lists of calls. The ticks that ran begin at a list of states; each is the state after the tick before it, but for
 -- requests presented in between. What the calls report is what the tick's definition says at these states.
-use Prim.Native.Nat.{ℕ, zero, suc, _+_, _-_, _<_}
+use Prim.Native.Nat.{ℕ, zero, suc, _+_, _-_, _<_, _≤_}
 use native.Mathlib.Omega.{arith}
 use mathlib.Core.Path.{_≡_, refl, sym, ap, _∙_}
 use mathlib.Core.Bool.{Bool, true, false, cond}
@@ -12,6 +12,10 @@ use Rattle.queue.specs.declared.Request.{Request}
 use Rattle.queue.specs.declared.Finish.{Finish}
 use Rattle.queue.specs.Queue.{waitingOf, waits, presented, served, finished}
 use Rattle.queue.specs.Laws.{waiting-with}
+use Rattle.server.specs.Returns.{maxHeld, heldOf}
+use Rattle.server.specs.Written.{same-reread}
+use lib.ListN.{length-take}
+use borrow.Author.Tests.{le-leb}
 use Rattle.table.specs.declared.Task.{Task}
 use Rattle.table.specs.declared.State.{State}
 use Rattle.table.specs.declared.Checked.{Checked}
@@ -113,12 +117,14 @@ pub record Behind (s x : State) : Type 0 where
   pub table : x .table ≡ s .table
   pub progress : x .progress ≡ s .progress
   pub queue : waits (waitingOf (s .queue)) ≡ true → waits (waitingOf (x .queue)) ≡ true
+  pub held : heldOf (x .returns) ≡ heldOf (s .returns)
+  pub few : s .returns .n ≤ maxHeld → x .returns .n ≤ maxHeld
 
 behind-self : (s : State) → Behind s s
-behind-self s = record { table = refl; progress = refl; queue = λ h. h }
+behind-self s = record { table = refl; progress = refl; queue = λ h. h; held = refl; few = λ h. h }
 
 behind-trans : (s x y : State) → Behind s x → Behind x y → Behind s y
-behind-trans s x y a b = record { table = b .table ∙ a .table; progress = b .progress ∙ a .progress; queue = λ h. b .queue (a .queue h) }
+behind-trans s x y a b = record { table = b .table ∙ a .table; progress = b .progress ∙ a .progress; queue = λ h. b .queue (a .queue h); held = b .held ∙ a .held; few = λ h. b .few (a .few h) }
 
 behind-request : (s : State) (id work : ℕ) → Behind s (written s (asked id work (modelOf s)))
 behind-request s id work = record {
@@ -126,6 +132,8 @@ behind-request s id work = record {
   progress = ap (λ (ls : List ℕ). (record { left = ls; server = s .progress .server; clock = s .progress .clock }))
       (overlay-take (s .table .n) (s .progress .left));
   queue = λ h. ap waits (waiting-with (s .queue) (presented id work (s .progress .clock) (waitingOf (s .queue)))) ∙ more (waitingOf (s .queue));
+  held = same-reread (s .returns);
+  few = λ h. rw (le-leb _ _ h) (omega (arith, length-take (s .returns .n) (s .returns .stretches), h));
 }
   where
     more : (q : List Request) → waits (presented id work (s .progress .clock) q) ≡ true

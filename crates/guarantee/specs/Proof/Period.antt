@@ -11,17 +11,20 @@ use Rattle.lists.specs.Tests.{never}
 use Rattle.lists.specs.Time.{due}
 use Rattle.lists.specs.Count.{due-apart}
 use Rattle.lists.specs.Stretch.{tally}
+use mathlib.Core.List.{List}
 use Rattle.server.specs.declared.Server.{Server}
-use Rattle.server.specs.declared.ServerState.{ServerState}
-use Rattle.server.specs.Kind.{Kind, background, polling, deferrable, sporadic}
+use Rattle.server.specs.Kind.{Kind, background, polling, deferrable, sporadic, returning}
 use Rattle.server.specs.Periodic.{periodicRefill}
-use Rattle.server.specs.Server.{replenish, servesIdle, consume}
-use Rattle.server.specs.Account.{Bits, seen}
+use Rattle.server.specs.Server.{servesIdle}
+use Rattle.server.specs.declared.Stretch.{Stretch}
+use Rattle.server.specs.Whole.{Whole, roomFor, replenishWhole, consumeWhole}
+use Rattle.server.specs.SupplyReturning.{seenWhole}
+use Rattle.server.specs.Account.{Bits}
 use Rattle.server.specs.SupplyPolling.{polling-backlog}
 use Rattle.server.specs.SupplyDeferrable.{deferrable-backlog}
 use Rattle.queue.specs.Queue.{waits}
 use Rattle.table.specs.Model.{TaskSet, Model}
-use Rattle.rules.specs.Tick.{dropped, firstOpen, kindAt, leftsAt, aboveAt, busyAt, serverAt, tick}
+use Rattle.rules.specs.Tick.{dropped, firstOpen, kindAt, leftsAt, aboveAt, busyAt, serverAt, mayAt, tick}
 use Rattle.rules.specs.Calls.{entryOf}
 use Rattle.guarantee.specs.Proof.Items.{server, Cells, taken, someOpen, states, itemsDemand}
 use Rattle.guarantee.specs.Proof.Chain.{SoundAll}
@@ -40,21 +43,32 @@ exact-idle background e = never refl e
 exact-idle polling e = refl
 exact-idle deferrable e = refl
 exact-idle sporadic e = never refl e
+exact-idle returning e = never refl e
 
 -- step 3, and step 5 while requests wait
-exact-refill : (k : Kind) → exact k ≡ true → (s : Server) (x : ServerState) (t : ℕ) (busy : Bool) → replenish k s x t busy .budget
-    ≡ periodicRefill s t (x .budget)
+exact-refill : (k : Kind) → exact k ≡ true → (s : Server) (x : Whole) (t : ℕ) (busy : Bool) → replenishWhole k s x t busy .part .budget
+    ≡ periodicRefill s t (x .part .budget)
 exact-refill background e s x t busy = never refl e
 exact-refill polling e s x t busy = refl
 exact-refill deferrable e s x t busy = refl
 exact-refill sporadic e s x t busy = never refl e
+exact-refill returning e s x t busy = never refl e
 
-exact-backlog : (k : Kind) → exact k ≡ true → (s : Server) (t : ℕ) (busy free : Bool) (w : Bits) (v : ServerState) → w .waits ≡ true → w .last ≡ false →
-    consume k s v (seen t busy free w v) .budget ≡ cond free (v .budget - 1) (v .budget)
+exact-backlog : (k : Kind) → exact k ≡ true → (s : Server) (t : ℕ) (busy free : Bool) (w : Bits) (v : Whole) → w .waits ≡ true → w .last ≡ false →
+    consumeWhole k s v (seenWhole k t busy free w v) .part .budget ≡ cond free (v .part .budget - 1) (v .part .budget)
 exact-backlog background e s t busy free w v a b = never refl e
-exact-backlog polling e s t busy free w v a b = polling-backlog s t busy free w v a b
-exact-backlog deferrable e s t busy free w v a b = deferrable-backlog s t busy free w v a
+exact-backlog polling e s t busy free w v a b = polling-backlog s t busy free w (v .part) a b
+exact-backlog deferrable e s t busy free w v a b = deferrable-backlog s t busy free w (v .part) a
 exact-backlog sporadic e s t busy free w v a b = never refl e
+exact-backlog returning e s t busy free w v a b = never refl e
+
+-- step 4: only kind 4 asks for room
+exact-room : (k : Kind) → exact k ≡ true → (t : ℕ) (us : List Stretch) → roomFor k t us ≡ true
+exact-room background e t us = never refl e
+exact-room polling e t us = refl
+exact-room deferrable e t us = refl
+exact-room sporadic e t us = never refl e
+exact-room returning e t us = never refl e
 
 -- requests wait as a tick begins and as it ends
 abbrev pub Backlog : TaskSet → Model → Type 0
@@ -76,23 +90,25 @@ module _ (p : TaskSet) (m : ℕ → Model) (N : ℕ) (run : Run p m N) (e : exac
 
   -- the budget inside tick u
   abbrev inside : ℕ → ℕ
-  inside u = periodicRefill (p .server) u (m u .server .budget)
+  inside u = periodicRefill (p .server) u (m u .server .part .budget)
 
-  inside-is : (u : ℕ) → u ≤ N → serverAt p (m u) .budget ≡ inside u
+  inside-is : (u : ℕ) → u ≤ N → serverAt p (m u) .part .budget ≡ inside u
   inside-is u h = exact-refill (kindAt p) e (p .server) (m u .server) (m u .clock) (busyAt p (m u))
-      ∙ ap (λ (t : ℕ). periodicRefill (p .server) t (m u .server .budget)) (run .clocks u h)
+      ∙ ap (λ (t : ℕ). periodicRefill (p .server) t (m u .server .part .budget)) (run .clocks u h)
 
-  budget-next : (u : ℕ) → u < N → Backlog p (m u) → m (suc u) .server .budget ≡ cond (not (aboveAt p (m u))) (inside u - 1) (inside u)
+  budget-next : (u : ℕ) → u < N → Backlog p (m u) → m (suc u) .server .part .budget ≡ cond (not (aboveAt p (m u))) (inside u - 1) (inside u)
   budget-next u h w =
-      ap (λ (v : ServerState). v .budget) (run .servers u h)
-      ∙ ap (λ (v : ServerState). v .budget) (ap (consume (kindAt p) (p .server) (serverAt p (m u))) (sees p (m u)))
+      ap (λ (v : Whole). v .part .budget) (run .servers u h)
+      ∙ ap (λ (v : Whole). v .part .budget) (ap (consumeWhole (kindAt p) (p .server) (serverAt p (m u))) (sees p (m u)))
       ∙ exact-backlog (kindAt p) e (p .server) (m u .clock) (busyAt p (m u)) (not (aboveAt p (m u))) (bitsOf p (m u)) (serverAt p (m u)) (w .0) (ap not (w .1))
       ∙ ap (λ (n : ℕ). cond (not (aboveAt p (m u))) (n - 1) n) (inside-is u (omega arith))
 
   serves : (u : ℕ) → u ≤ N → Backlog p (m u) → hasRequest u ≡ (not (aboveAt p (m u)) && ltb 0 (inside u))
   serves u h w =
-      request-step (kindAt p) (aboveAt p (m u)) (busyAt p (m u)) (waits (m u .queue)) (serverAt p (m u)) (firstOpen (leftsAt p (m u)))
+      request-step (kindAt p) (aboveAt p (m u)) (busyAt p (m u)) (waits (m u .queue)) (mayAt p (m u)) (firstOpen (leftsAt p (m u)))
       (dropped (m u .clock) (p .tasks) (m u .lefts)) (m u .queue) (exact-idle (kindAt p) e)
+      ∙ ap (λ (r : Bool). not (aboveAt p (m u)) && (r && (waits (m u .queue) && ltb 0 (serverAt p (m u) .part .budget))))
+      (exact-room (kindAt p) e (m u .clock) (serverAt p (m u) .returns))
       ∙ ap₂ (λ (a : Bool) (n : ℕ). not (aboveAt p (m u)) && (a && ltb 0 n)) (w .0) (inside-is u h)
 
   -- what stands above the server takes tick u where a task above is open
@@ -122,11 +138,11 @@ module _ (p : TaskSet) (m : ℕ → Model) (N : ℕ) (run : Run p m N) (e : exac
       is : inside t ≡ z
       is = h (omega arith)
 
-      same : (c : Bool) → c ≡ false → cond c B (m (suc t) .server .budget) ≡ m (suc t) .server .budget
+      same : (c : Bool) → c ≡ false → cond c B (m (suc t) .server .part .budget) ≡ m (suc t) .server .part .budget
       same true q = never q refl
       same false q = refl
 
-      next : m (suc t) .server .budget ≡ cond (not (aboveAt p (m t))) (z - 1) z
+      next : m (suc t) .server .part .budget ≡ cond (not (aboveAt p (m t))) (z - 1) z
       next = budget-next t (omega arith) now ∙ ap (λ (k : ℕ). cond (not (aboveAt p (m t))) (k - 1) k) is
 
       hit : hasRequest t ≡ (not (aboveAt p (m t)) && ltb 0 z)
@@ -160,7 +176,7 @@ module _ (p : TaskSet) (m : ℕ → Model) (N : ℕ) (run : Run p m N) (e : exac
       served P a B l (λ _. full d) between w .1 (enough-free (items p) (reads p m) i sound plain B P R some soon meets a)
     where
       full : due a 0 P ≡ true → inside a ≡ B
-      full d = ap (λ (c : Bool). cond c B (m a .server .budget)) d
+      full d = ap (λ (c : Bool). cond c B (m a .server .part .budget)) d
 
       between : (u : ℕ) → a < u → u < a + P → due u 0 P ≡ false
       between u b c = go (due u 0 P) refl

@@ -6,7 +6,11 @@ use mathlib.Core.Path.{_≡_, refl, ap, ap₂, _∙_}
 use mathlib.Core.List.{List, [], _∷_, _++_}
 use lib.ListN.{length, take, drop, length-append, length-take, replicate}
 use Rattle.lists.specs.Lists.{overlay, zipWith}
-use Rattle.server.specs.Server.{freshServer}
+use borrow.Author.Tests.{le-leb}
+use Rattle.server.specs.declared.Stretch.{Stretch}
+use Rattle.server.specs.Returns.{maxHeld}
+use Rattle.server.specs.Whole.{whole, freshWhole}
+use Rattle.server.specs.Written.{few-reread}
 use Rattle.queue.specs.Queue.{waits}
 use Rattle.queue.specs.Laws.{waiting-with}
 use Rattle.table.specs.declared.Task.{Task}
@@ -19,6 +23,7 @@ use Rattle.table.specs.State.{freshState}
 use Rattle.rules.specs.Tick.{opened, kindAt, leftsAt, turnAt, Tick, tick}
 use Rattle.rules.specs.Calls.{ticked, stateAfter}
 use Rattle.rules.specs.Laws.{worked-length}
+use Rattle.rules.specs.ServerKept.{held-after}
 use Rattle.guarantee.specs.Calls.{Call, final, begins, stateBefore}
 use Rattle.guarantee.specs.Proof.Items.{Item, server, Cells, fresh, freshAll}
 use Rattle.guarantee.specs.Proof.Tie.{onlyTasks, insert, taskCells, insertCell, nth}
@@ -114,6 +119,15 @@ module _ (t : Table) (calls : List Call) where
   left-next u h =
       ap (λ (q : Progress). q .left) (next u h .progress) ∙ ap (λ (x : Tick). overlay (x .next .lefts) (at u .progress .left)) (ticked-is u (omega arith))
 
+  -- at most 32 stretches are held
+  few-held : (u : ℕ) → u ≤ N → at u .returns .n ≤ maxHeld
+  few-held zero h = first .few (omega arith)
+  few-held (suc u) h =
+      let n : at u .returns .n ≤ maxHeld = few-held u (omega arith) in
+      next u h .few
+      (rw (le-leb _ _ n)
+      (held-after (taskSetOf (at u .table)) (m u) (omega (arith, length-take (at u .returns .n) (at u .returns .stretches), n))))
+
   -- where the table says that no more tasks are in use than it has slots
   module _ (few : t .n ≤ maxTasks) where
     array-long : (u : ℕ) → u ≤ N → length (p .tasks) ≤ length (at u .progress .left)
@@ -132,12 +146,16 @@ module _ (t : Table) (calls : List Call) where
       clocks = clock-is;
       covers = λ u h. long u h (array-long u h);
       first =
-          ap (λ (q : Progress). insertCell (t .server .place) (p .tasks) (server (kindAt p) (t .server)) (nth (take (at 0 .table .n) (q .left))) (q .server))
-          (first .progress)
+          ap₂ (λ (q : Progress) (us : List Stretch). insertCell (t .server .place) (p .tasks) (server (kindAt p) (t .server))
+          (nth (take (at 0 .table .n) (q .left))) (whole (q .server) us))
+          (first .progress) (first .held)
           ∙ cells-same (t .server .place) (p .tasks) (server (kindAt p) (t .server)) (nth (take (at 0 .table .n) (replicate maxTasks 0))) (λ _. 0)
-          (freshServer (kindAt p) (t .server)) (λ i _. zeros (at 0 .table .n) maxTasks i)
+          (freshWhole (kindAt p) (t .server)) (λ i _. zeros (at 0 .table .n) maxTasks i)
           ∙ insert-fresh (t .server .place) (p .tasks) (server (kindAt p) (t .server));
-      servers = λ u h. ap (λ (q : Progress). q .server) (next u h .progress) ∙ ap (λ (x : Tick). x .next .server) (ticked-is u (omega arith));
+      servers = λ u h.
+          ap₂ whole (ap (λ (q : Progress). q .server) (next u h .progress))
+          (next u h .held ∙ few-reread (at u .returns) (ticked (at u) .next .server .returns) (few-held u (omega arith)))
+          ∙ ap (λ (x : Tick). x .next .server) (ticked-is u (omega arith));
       lefts = λ u h i b.
           ap₂ (λ (n : ℕ) (ls : List ℕ). nth (take n ls) i) (ap (λ (y : Table). y .n) (table-is (suc u) h)) (left-next u h)
           ∙ overlay-front (t .n) (tick p (m u) .next .lefts) (at u .progress .left) i

@@ -8,16 +8,17 @@ use lib.ListN.{length, take, getD, set}
 use borrow.Author.Tests.{ltb-false}
 use Rattle.lists.specs.Tests.{never}
 use Rattle.server.specs.declared.Server.{Server}
-use Rattle.server.specs.declared.ServerState.{ServerState}
 use Rattle.server.specs.declared.Seen.{Seen}
 use Rattle.server.specs.Kind.{Kind}
-use Rattle.server.specs.Server.{replenish, eligible, servesIdle, consume}
-use Rattle.server.specs.Account.{Bits, seen}
+use Rattle.server.specs.Server.{servesIdle}
+use Rattle.server.specs.Whole.{Whole, replenishWhole, eligibleWhole, consumeWhole}
+use Rattle.server.specs.SupplyReturning.{seenWhole}
+use Rattle.server.specs.Account.{Bits}
 use Rattle.queue.specs.Queue.{waits}
 use Rattle.table.specs.declared.Task.{Task}
 use Rattle.table.specs.Model.{TaskSet, Model}
 use Rattle.rules.specs.declared.Turn.{Turn}
-use Rattle.rules.specs.Tick.{isOpen, anyOpen, opened, openedAll, firstOpen, choose, byBudget, workedTasks, workedQueue, kindAt, leftsAt, aboveAt, busyAt, serverAt, turnAt, seenAt, tick}
+use Rattle.rules.specs.Tick.{isOpen, anyOpen, opened, openedAll, firstOpen, choose, byBudget, workedTasks, workedQueue, kindAt, leftsAt, aboveAt, busyAt, serverAt, mayAt, turnAt, seenAt, tick}
 use Rattle.guarantee.specs.Proof.Items.{Item, task, server, Cell, Cells, start, wants, finish, later, chain, someOpen, tickItems}
 
 -- ---- the table as a list of items, and a model as their cells
@@ -82,16 +83,16 @@ tasks-chain (x ∷ xs) (l ∷ ls) h t busy free w =
     ap (λ (r : Cells (onlyTasks xs)). (cond free (opened t x l - 1) (opened t x l), r))
     (tasks-chain xs ls (omega arith) t busy (free && not (isOpen (opened t x l))) w)
 
-insert-chain : (k : Kind) (v : Server) (s : ℕ) (xs : List Task) (ls : List ℕ) (c : ServerState) → length xs ≤ length ls →
+insert-chain : (k : Kind) (v : Server) (s : ℕ) (xs : List Task) (ls : List ℕ) (c : Whole) → length xs ≤ length ls →
     (t : ℕ) (busy free : Bool) (w : Bits) →
-    let u : ServerState = replenish k v c t busy in
-    insertCell s xs (server k v) (nth (lowered s free (eligible (w .waits) u) (openedAll t xs ls)))
-    (consume k v u (seen t busy (offer s free (openedAll t xs ls)) w u))
+    let u : Whole = replenishWhole k v c t busy in
+    insertCell s xs (server k v) (nth (lowered s free (eligibleWhole k t (w .waits) u) (openedAll t xs ls)))
+    (consumeWhole k v u (seenWhole k t busy (offer s free (openedAll t xs ls)) w u))
     ≡ chain (insert s xs (server k v)) t busy free (λ _. w) (insertCell s xs (server k v) (nth ls) c)
 unfolding chain start wants finish
 insert-chain k v zero xs ls c h t busy free w =
-    ap (λ (r : Cells (onlyTasks xs)). (consume k v (replenish k v c t busy) (seen t busy free w (replenish k v c t busy)), r))
-    (tasks-chain xs ls h t busy (free && not (eligible (w .waits) (replenish k v c t busy))) w)
+    ap (λ (r : Cells (onlyTasks xs)). (consumeWhole k v (replenishWhole k v c t busy) (seenWhole k t busy free w (replenishWhole k v c t busy)), r))
+    (tasks-chain xs ls h t busy (free && not (eligibleWhole k t (w .waits) (replenishWhole k v c t busy))) w)
 insert-chain k v (suc s) [] ls c h t busy free w = refl
 insert-chain k v (suc s) (x ∷ xs) [] c h t busy free w = absurd (omega arith)
 insert-chain k v (suc s) (x ∷ xs) (l ∷ ls) c h t busy free w =
@@ -105,7 +106,7 @@ tasks-open [] ls h t = refl
 tasks-open (x ∷ xs) [] h t = absurd (omega arith)
 tasks-open (x ∷ xs) (l ∷ ls) h t = ap (λ (b : Bool). isOpen (opened t x l) || b) (tasks-open xs ls (omega arith) t)
 
-insert-open : (k : Kind) (v : Server) (s : ℕ) (xs : List Task) (ls : List ℕ) (c : ServerState) → length xs ≤ length ls → (t : ℕ) →
+insert-open : (k : Kind) (v : Server) (s : ℕ) (xs : List Task) (ls : List ℕ) (c : Whole) → length xs ≤ length ls → (t : ℕ) →
     someOpen (insert s xs (server k v)) t (insertCell s xs (server k v) (nth ls) c) ≡ anyOpen (openedAll t xs ls)
 unfolding someOpen
 insert-open k v zero xs ls c h t = tasks-open xs ls h t
@@ -173,9 +174,9 @@ lowered-takes (suc s) (l ∷ ls) = go (isOpen l) refl (lowered-takes s ls)
         out false = refl
 
 -- the tasks after step 5
-worked : (k : Kind) (s : ℕ) (waiting : Bool) (x : ServerState) (ls : List ℕ) →
-    workedTasks (choose k (anyOpen (take s ls)) (anyOpen ls) waiting x (firstOpen ls)) ls ≡ lowered s true (eligible waiting x) ls
-worked k s waiting x ls = go (anyOpen (take s ls)) refl (eligible waiting x) (anyOpen ls) refl (servesIdle k && waiting)
+worked : (k : Kind) (s : ℕ) (waiting may : Bool) (ls : List ℕ) →
+    workedTasks (choose k (anyOpen (take s ls)) (anyOpen ls) waiting may (firstOpen ls)) ls ≡ lowered s true may ls
+worked k s waiting may ls = go (anyOpen (take s ls)) refl may (anyOpen ls) refl (servesIdle k && waiting)
   where
     takes : (above : Bool) → anyOpen (take s ls) ≡ above → (e : Bool) → lowered s true e ls ≡ cond (not above && e) ls (lowerFirst true ls)
     takes true q true = lowered-takes s ls ∙ ap (λ (b : Bool). cond b (lowerFirst true ls) ls) q
@@ -206,9 +207,9 @@ offer-above (suc s) free (l ∷ ls) = offer-above s (free && not (isOpen l)) ls 
     go false b c = refl
 
 -- it serves by its budget where it is offered the processor and takes it
-pub serves-by : (k : Kind) (above busy waiting : Bool) (x : ServerState) (first : ℕ) → byBudget (choose k above busy waiting x first)
-    ≡ (not above && eligible waiting x)
-serves-by k above busy waiting x first = go above (eligible waiting x) busy (servesIdle k && waiting)
+pub serves-by : (k : Kind) (above busy waiting may : Bool) (first : ℕ) → byBudget (choose k above busy waiting may first)
+    ≡ (not above && may)
+serves-by k above busy waiting may first = go above may busy (servesIdle k && waiting)
   where
     go : (above e busy idle : Bool) →
         byBudget (cond above (Turn.Task first) (cond e Turn.Budget (cond busy (Turn.Task first) (cond idle Turn.Spare Turn.Nobody)))) ≡ (not above && e)
@@ -219,20 +220,20 @@ serves-by k above busy waiting x first = go above (eligible waiting x) busy (ser
     go false false false false = refl
 
 -- what step 5 shows the server
-pub sees : (p : TaskSet) (m : Model) → seenAt p m ≡ seen (m .clock) (busyAt p m) (not (aboveAt p m)) (bitsOf p m) (serverAt p m)
+pub sees : (p : TaskSet) (m : Model) → seenAt p m ≡ seenWhole (kindAt p) (m .clock) (busyAt p m) (not (aboveAt p m)) (bitsOf p m) (serverAt p m)
 sees p m =
-    rw (serves-by (kindAt p) (aboveAt p m) (busyAt p m) (waits (m .queue)) (serverAt p m) (firstOpen (leftsAt p m))) (go (aboveAt p m))
+    rw (serves-by (kindAt p) (aboveAt p m) (busyAt p m) (waits (m .queue)) (mayAt p m) (firstOpen (leftsAt p m))) (go (aboveAt p m))
   where
     go : (above : Bool) →
         (record {
           t = m .clock;
           above = above;
           busy = busyAt p m;
-          serves = not above && eligible (waits (m .queue)) (serverAt p m);
+          serves = not above && mayAt p m;
           waited = waits (m .queue);
           emptied = bitsOf p m .last;
         })
-        ≡ seen (m .clock) (busyAt p m) (not above) (bitsOf p m) (serverAt p m)
+        ≡ seenWhole (kindAt p) (m .clock) (busyAt p m) (not above) (bitsOf p m) (serverAt p m)
     go true = refl
     go false = refl
 
@@ -242,9 +243,9 @@ pub tick-tie : (p : TaskSet) (m : Model) → length (p .tasks) ≤ length (m .le
 unfolding tickItems
 tick-tie p m h =
     ap₂ (λ (ls : List ℕ) (e : Seen). insertCell (p .server .place) (p .tasks) (server (kindAt p) (p .server)) (nth ls)
-    (consume (kindAt p) (p .server) (serverAt p m) e))
-    (worked (kindAt p) (p .server .place) (waits (m .queue)) (serverAt p m) (leftsAt p m))
-    (sees p m ∙ ap (λ (f : Bool). seen (m .clock) (busyAt p m) f (bitsOf p m) (serverAt p m)) (sym (offer-above (p .server .place) true (leftsAt p m))))
+    (consumeWhole (kindAt p) (p .server) (serverAt p m) e))
+    (worked (kindAt p) (p .server .place) (waits (m .queue)) (mayAt p m) (leftsAt p m))
+    (sees p m ∙ ap (λ (f : Bool). seenWhole (kindAt p) (m .clock) (busyAt p m) f (bitsOf p m) (serverAt p m)) (sym (offer-above (p .server .place) true (leftsAt p m))))
     ∙ insert-chain (kindAt p) (p .server) (p .server .place) (p .tasks) (m .lefts) (m .server) h (m .clock) (busyAt p m) true (bitsOf p m)
     ∙ ap (λ (b : Bool). chain (items p) (m .clock) b true (λ _. bitsOf p m) (cells p m))
     (sym (insert-open (kindAt p) (p .server) (p .server .place) (p .tasks) (m .lefts) (m .server) h (m .clock)))

@@ -9,8 +9,8 @@ use lib.ListN.{take}
 use borrow.Author.Tests.{lt-ltb}
 use Rattle.lists.specs.Tests.{never}
 use Rattle.server.specs.declared.Server.{Server}
-use Rattle.server.specs.declared.ServerState.{ServerState}
-use Rattle.server.specs.Kind.{Kind, background, polling, deferrable, sporadic}
+use Rattle.server.specs.Whole.{Whole}
+use Rattle.server.specs.Kind.{Kind, background, polling, deferrable, sporadic, returning}
 use Rattle.server.specs.Account.{Bits, After}
 use Rattle.rules.specs.Tick.{isOpen, opened}
 use Rattle.guarantee.specs.Proof.Items.{Item, task, server, Cells, start, wants, finish, fresh, later, taken, chain, someOpen, tickItems, freshAll, states, itemsDemand}
@@ -83,6 +83,7 @@ alone background = false
 alone polling = false
 alone deferrable = false
 alone sporadic = true
+alone returning = false
 
 abbrev pub Plain : List Item → Type 0
 Plain [] = Unit {0}
@@ -99,19 +100,21 @@ Sole [] = Unit {0}
 Sole (task x ∷ xs) = Sole xs
 Sole (server k s ∷ xs) = (alone k ≡ true) × Tasks xs
 
-kind-plain : (k : Kind) (s : Server) (busy free : Bool) (c : ServerState) → alone k ≡ false → Lively (server k s) busy true free c
+kind-plain : (k : Kind) (s : Server) (busy free : Bool) (c : Whole) → alone k ≡ false → Lively (server k s) busy true free c
 unfolding Lively
 kind-plain background s busy free c e = tt
 kind-plain polling s busy free c e = refl
 kind-plain deferrable s busy free c e = refl
 kind-plain sporadic s busy free c e = never e refl
+kind-plain returning s busy free c e = refl
 
-kind-sole : (k : Kind) (s : Server) (busy free : Bool) (c : ServerState) → alone k ≡ true → (free ≡ false → busy ≡ true) → Lively (server k s) busy busy free c
+kind-sole : (k : Kind) (s : Server) (busy free : Bool) (c : Whole) → alone k ≡ true → (free ≡ false → busy ≡ true) → Lively (server k s) busy busy free c
 unfolding Lively
 kind-sole background s busy free c e f = tt
 kind-sole polling s busy free c e f = never refl e
 kind-sole deferrable s busy free c e f = never refl e
 kind-sole sporadic s busy free c e f = (refl, f)
+kind-sole returning s busy free c e f = never refl e
 
 pub plain-lively : (xs : List Item) → Plain xs → (t : ℕ) (busy free : Bool) (w : ℕ → Bits) (cs : Cells xs) → LivelyAll xs t busy true free w cs
 unfolding Lively

@@ -1,4 +1,5 @@
 -- `output::step` meets its contract: an A line that is due, or ticks.
+use mathlib.Core.Logic.{⊎-elim}
 use borrow.Author.Needs.{needs}
 use Rattle.output.specs.Steps.{presented-taken}
 use Rattle.output.proofs.Laws.{later-found, later-done}
@@ -11,19 +12,6 @@ enum-known-next c = search needs
 present-requires : tie.Need-present-requires
 present-requires c κs = search needs
 
-run-on-requires : tie.Need-run-on-requires
-run-on-requires c κs =
-    let a = c .before .before .before .before .before .before .before .before .before in
-    (a .pre .0, a .pre .1, later-found _ _ _ _ (c .before .before .before .before .before .next .given .1) (c .before .if1 .left))
-
-enum-told : tie.Need-enum-told
-enum-told c = search needs
-
-run-on-requires-2 : tie.Need-run-on-requires-2
-run-on-requires-2 c κs =
-    let a = c .before .before .before .before .before in
-    (a .pre .0, a .pre .1, later-done _ _ (c .before .enum-told .given .1))
-
 same-length : tie.Need-same-length
 same-length c = search needs
 
@@ -32,17 +20,26 @@ returns c =
     let a = c .before .before .before .before .before .before .before .before .before .before .before .before in
     presented-taken _ _ (a .args .p) (a .pre .1) _ _ (c .before .before .before .before .before .before .before .before .next .given .1) (c .before .before .before .before .if1 .taken) (c .before .before .present .ensures)
 
+enum-told : tie.Need-enum-told
+enum-told c = search needs
+
+-- no A line is due: the next one is another tick's, or there is none
+run-on-requires : tie.Need-run-on-requires
+run-on-requires c κs =
+    let a = c .before .before .before .before in (
+      a .pre .0,
+      a .pre .1,
+      ⊎-elim
+          (λ w. later-found _ _ _ _ (w .1 .given .1) (w .5 .left))
+          (λ w. later-done _ _ (w .1 .given .1))
+          (c .before .match .came),
+    )
+
 same-length-2 : tie.Need-same-length-2
 same-length-2 c = search needs
 
 returns-2 : tie.Need-returns-2
 returns-2 c = c .before .before .run-on .ensures _
-
-same-length-3 : tie.Need-same-length-3
-same-length-3 c = search needs
-
-returns-3 : tie.Need-returns-3
-returns-3 c = c .before .before .run-on2 .ensures _
 
 pub step-spec : {M : Type 1} → statement M
 step-spec =
@@ -50,12 +47,9 @@ step-spec =
     (tie.spec
     enum-known-next
     present-requires
-    run-on-requires
-    enum-told
-    run-on-requires-2
     same-length
     returns
+    enum-told
+    run-on-requires
     same-length-2
-    returns-2
-    same-length-3
-    returns-3)
+    returns-2)

@@ -1,4 +1,4 @@
--- `server_fits` meets its contract: each arm of the match is the definition's clause for that kind; past 3 there is none.
+-- `server_fits` meets its contract: each arm of the match is the definition's clause for that kind; past 4 there is none.
 use Prim.Native.Nat.{_<_}
 use native.Mathlib.Omega.{arith}
 use borrow.Author.Tests.{lt-leb}
@@ -19,6 +19,9 @@ budget-fits-requires-2 c κs = search needs
 budget-fits-requires-3 : tie.Need-budget-fits-requires-3
 budget-fits-requires-3 c κs = search needs
 
+budget-fits-requires-4 : tie.Need-budget-fits-requires-4
+budget-fits-requires-4 c κs = search needs
+
 returns : tie.Need-returns
 returns c = rw (c .before .match .keys1) (c .background-fits .ensures)
 
@@ -32,7 +35,10 @@ returns-4 : tie.Need-returns-4
 returns-4 c = rw (c .before .match .keys4) (c .budget-fits3 .ensures)
 
 returns-5 : tie.Need-returns-5
-returns-5 c =
+returns-5 c = rw (c .before .match .keys5) (c .budget-fits4 .ensures)
+
+returns-6 : tie.Need-returns-6
+returns-6 c =
     let other : lastKind < c .before .args .server .kind = omega (arith, c .match .rest) in
     rw (lt-leb (c .before .args .server .kind) lastKind other)
 
@@ -44,8 +50,10 @@ server-fits-spec =
     budget-fits-requires
     budget-fits-requires-2
     budget-fits-requires-3
+    budget-fits-requires-4
     returns
     returns-2
     returns-3
     returns-4
-    returns-5)
+    returns-5
+    returns-6)

@@ -8,10 +8,17 @@ use std::time::Instant;
 use differential::abi::Calls;
 use differential::call::{compare, random_call, shrink, table_call, Call};
 use differential::open::find;
-use differential::program::{count_and_seed, words, write, Seen};
+use differential::program::{all_reached, count_and_seed, write, Seen};
 use differential::random::Random;
+use differential::returns::{shown, unfit_by, CLAUSES, SHOWN};
 use differential::state;
+use second::table::RETURNING;
 use second::State;
+
+const OTHER_KINDS: &str = "accepted under another kind with more than 32 stretches";
+
+/// From so many calls on, each of these is to be reached.
+const ENOUGH: u64 = 100_000;
 
 struct Fault {
     state: State,
@@ -35,21 +42,28 @@ fn main() {
         list += 1;
     }
     println!("calls: {made} calls in {list} lists, all alike in {:.1} s", start.elapsed().as_secs_f64());
-    println!("calls: {}", words(&seen));
+    let clauses = CLAUSES.map(unfit_words);
+    let to_reach: Vec<&str> = SHOWN.into_iter().chain(clauses.iter().map(String::as_str)).chain([OTHER_KINDS]).collect();
+    if !all_reached("calls", &seen, &to_reach, count, ENOUGH) {
+        exit(1);
+    }
 }
 
-/// One list of calls from a fresh, a fit, an edge or an unfit state; each call starts where the last one ended.
+/// One list of calls from a fresh, a fit, an edge or an unfit state, or one of kind 4 with many stretches or broken ones; each call starts
+/// where the last one ended.
 fn one_list(calls: &Calls, random: &mut Random, made: &mut u64, seen: &mut Seen) -> Result<(), Fault> {
-    let (mut state, length) = match random.below(10) {
+    let (mut state, length) = match random.below(12) {
         0..=3 => (State::set_up(state::table(random)).expect("a table within its limits"), 40),
         4..=6 => (state::fit(random), 6),
         7 => (state::edge(random), 4),
-        _ => (state::unfit(random), 3),
+        8 | 9 => (state::unfit(random), 3),
+        10 => (many_stretches(random), 9),
+        _ => (state::broken(random), 2),
     };
     for _ in 0..length {
         let call = if random.once_in(12) { table_call(random) } else { random_call(random) };
         *made += 1;
-        *seen.entry(ending(&state, &call)).or_default() += 1;
+        note(seen, &state, &call);
         state = match compare(calls, &state, &call) {
             // A set-up within a list is compared and its state left aside.
             Ok(_) if matches!(call, Call::SetUp(_)) => state,
@@ -58,6 +72,33 @@ fn one_list(calls: &Calls, random: &mut Random, made: &mut u64, seen: &mut Seen)
         };
     }
     Ok(())
+}
+
+fn many_stretches(random: &mut Random) -> State {
+    let count = random.pick(&[30, 31, 32, 32]);
+    state::returning(random, count)
+}
+
+/// Counts how the call ends, what makes its state unfit, and what its first tick shows.
+fn note(seen: &mut Seen, state: &State, call: &Call) {
+    let mut add = |what: String| *seen.entry(what).or_default() += 1;
+    add(ending(state, call));
+    if matches!(call, Call::SetUp(_) | Call::Admit(_) | Call::Damaged { .. }) {
+        return;
+    }
+    if let Some(clause) = unfit_by(state) {
+        add(unfit_words(clause));
+    }
+    if state.table.server.kind != RETURNING && state.returns.held > 32 && state.is_fit() {
+        add(OTHER_KINDS.to_string());
+    }
+    if matches!(call, Call::Tick | Call::Run { .. }) {
+        shown(state).into_iter().for_each(|what| add(what.to_string()));
+    }
+}
+
+fn unfit_words(clause: &str) -> String {
+    format!("unfit by {clause} alone")
 }
 
 /// The call's name and number: what the counts show was reached.
@@ -102,6 +143,10 @@ fn describe(state: &State) -> String {
     }
     for request in &state.queue[..waiting] {
         text += &format!("{request:?}\n");
+    }
+    text += &format!("{} stretches\n", state.returns.held);
+    for stretch in &state.returns.stretches[..state.returns.held.min(32) as usize] {
+        text += &format!("{stretch:?}\n");
     }
     text
 }

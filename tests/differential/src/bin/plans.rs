@@ -1,6 +1,7 @@
 //! `plans PROGRAM [COUNT] [SEED]`: the program's output for random plans, against the second implementation, byte for byte.
 //! A plan that tells them apart is made small and written to target/differential/.
 
+use std::collections::BTreeSet;
 use std::io::Write;
 use std::process::{exit, Command, Stdio};
 use std::sync::atomic::{AtomicBool, Ordering};
@@ -8,9 +9,18 @@ use std::thread;
 use std::time::Instant;
 
 use differential::plan::plan;
-use differential::program::{count_and_seed, words, write, Seen};
+use differential::program::{all_reached, count_and_seed, write, Seen};
 use differential::random::Random;
+use differential::returns::{shown, SHOWN};
 use differential::shrink::shrink;
+use second::plan::{read, Plan};
+use second::table::RETURNING;
+use second::State;
+
+const KINDS: [&str; 5] = ["kind 0", "kind 1", "kind 2", "kind 3", "kind 4"];
+
+/// From so many plans on, each kind and all that a tick of kind 4 can show is to be reached.
+const ENOUGH: u64 = 5_000;
 
 fn main() {
     let mut arguments = std::env::args().skip(1);
@@ -25,7 +35,10 @@ fn main() {
         }
         Ok(seen) => {
             println!("plans: all alike in {:.1} s", start.elapsed().as_secs_f64());
-            println!("plans: {}", words(&seen));
+            let to_reach: Vec<&str> = KINDS.into_iter().chain(SHOWN).collect();
+            if !all_reached("plans", &seen, &to_reach, count, ENOUGH) {
+                exit(1);
+            }
         }
     }
 }
@@ -47,6 +60,7 @@ fn compare(program: &str, count: u64, seed: u64) -> Result<Seen, u64> {
                 return Err(index);
             }
             note(&mut seen, &expected);
+            note_kind(&mut seen, &plan);
         }
         Ok(seen)
     };
@@ -81,6 +95,33 @@ fn note(seen: &mut Seen, output: &[u8]) {
         if any(test) {
             add(what.to_string());
         }
+    }
+}
+
+/// Counts the kind of a plan that is not refused, and what its ticks show of kind 4, once for each.
+fn note_kind(seen: &mut Seen, text: &[u8]) {
+    let Ok(plan) = read(text) else { return };
+    let kind = plan.table.server.kind;
+    let mut met = BTreeSet::from([KINDS[kind as usize]]);
+    if kind == RETURNING {
+        replay(&plan, |before| met.extend(shown(before)));
+    }
+    for what in met {
+        *seen.entry(what.to_string()).or_default() += 1;
+    }
+}
+
+/// The state before each tick of a plan, by the second implementation.
+fn replay(plan: &Plan, mut look: impl FnMut(&State)) {
+    let mut state = State::set_up(plan.table).expect("a read plan's table keeps its limits");
+    let mut arrivals = plan.arrivals.iter().peekable();
+    for t in 0..plan.ticks {
+        while let Some(arrival) = arrivals.next_if(|arrival| arrival.tick == t) {
+            // A full queue refuses, and the plan goes on.
+            let _ = state.request(arrival.id, arrival.work);
+        }
+        look(&state);
+        state.tick().expect("a plan's ticks stay below the last clock");
     }
 }
 

@@ -3,12 +3,12 @@ use Prim.Native.Nat.{ℕ, _≤_, _-_, _+_, _<_}
 use native.Mathlib.Omega.{arith}
 use mathlib.Core.Path.{_≡_, refl, ap, _∙_}
 use mathlib.Core.List.{List}
-use lib.ListN.{length, length-map}
+use lib.ListN.{length, take, drop, length-map}
 use borrow.Author.Needs.{needs}
 use Rattle.queue.specs.Queue.{maxWaiting}
 use Rattle.queue.specs.declared.Request.{Request}
 use Rattle.queue.specs.declared.Queue.{Queue}
-use Rattle.queue.proofs.Laws.{shifted, shift-step, shifted-all}
+use Rattle.lists.specs.Lists.{overlay, shifted, shift-step, shifted-all}
 use Rattle.queue.proofs.Queue.without_head.Statement.{statement}
 use Rattle.queue.proofs.Queue.without_head.Tie as tie
 
@@ -66,8 +66,9 @@ returns c =
     let q = s .args .self in
     let l : length (q .requests) ≡ maxWaiting = simp length-map at (s .good .0 .1 .1 .0 .1 .0 .1) in
     let e : a .loop .i ≡ q .n - 1 = omega arith in
-    ap (λ (x : List Request). record { requests = x; n = q .n - 1 }) (a .loop .inv .1 ∙ ap (λ (k : ℕ). shifted (q .requests) k) e)
-    ∙ shifted-all (q .n) (q .requests) (omega arith) (omega arith)
+    let all = shifted-all (q .n) (q .requests) (omega arith) (omega arith) in
+    ap {B = Queue} (λ (x : List Request). record { requests = x; n = q .n - 1 }) (a .loop .inv .1 ∙ ap (λ (k : ℕ). shifted (q .requests) k) e ∙ all .0)
+    ∙ ap {B = Queue} (λ (n : ℕ). record { requests = overlay (drop 1 (take (q .n) (q .requests))) (q .requests); n = n }) (all .1)
 
 pub without-head-spec : {M : Type 1} → statement M
 without-head-spec =

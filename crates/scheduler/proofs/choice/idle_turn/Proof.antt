@@ -5,7 +5,7 @@ use Rattle.scheduler.proofs.choice.idle_turn.Statement.{statement}
 use Rattle.scheduler.proofs.choice.idle_turn.Tie as tie
 
 returns : tie.Need-returns
-returns c = rw (kind-other _ (c .before .match .rest .0 .0 .1) (c .before .match .rest .0 .1) (c .before .match .rest .1), c .if1 .taken)
+returns c = rw (kind-other _ (c .before .match .rest .0 .0 .0 .1) (c .before .match .rest .0 .0 .1) (c .before .match .rest .0 .1) (c .before .match .rest .1), c .if1 .taken)
 
 returns-2 : tie.Need-returns-2
 returns-2 c = search needs
@@ -17,7 +17,10 @@ returns-4 : tie.Need-returns-4
 returns-4 c = search needs
 
 returns-5 : tie.Need-returns-5
-returns-5 c = rw (kind-other _ (c .before .match .rest .0 .0 .1) (c .before .match .rest .0 .1) (c .before .match .rest .1), c .if1 .left)
+returns-5 c = search needs
+
+returns-6 : tie.Need-returns-6
+returns-6 c = rw (kind-other _ (c .before .match .rest .0 .0 .0 .1) (c .before .match .rest .0 .0 .1) (c .before .match .rest .0 .1) (c .before .match .rest .1), c .if1 .left)
 
 pub idle-turn-spec : {M : Type 1} → statement M
-idle-turn-spec = tie.close (tie.spec returns returns-2 returns-3 returns-4 returns-5)
+idle-turn-spec = tie.close (tie.spec returns returns-2 returns-3 returns-4 returns-5 returns-6)

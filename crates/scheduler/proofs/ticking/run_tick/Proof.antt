@@ -1,68 +1,132 @@
--- `run_tick` meets its contract: what `decide` gives, with what the queue's head brings if the tick goes to it.
-use mathlib.Core.Path.{_≡_}
+-- `run_tick` meets its contract: what `decide` gives, the returns as they move, and what the queue's head brings if the tick goes to it.
+use Prim.Native.Nat.{ℕ}
+use mathlib.Core.Bool.{cond, _&&_}
+use mathlib.Core.Path.{_≡_, ap, ap₂, _∙_}
+use Rattle.server.specs.declared.Edge.{Edge}
+use Rattle.server.specs.declared.Returns.{Returns}
+use Rattle.server.specs.Advanced.{edgeWithin, advanced, moves}
+use Rattle.table.specs.declared.State.{State}
+use Rattle.rules.specs.Calls.{stateAfter}
+use Rattle.scheduler.specs.Decision.{edgeAt, decidedBy}
+use Rattle.scheduler.specs.declared.work.Head.{Head}
 use lib.ListN.{length, length-map}
+use Rattle.server.specs.Returns.{maxHeld}
 use Rattle.queue.specs.Queue.{maxWaiting}
-use Rattle.scheduler.proofs.Together.{may-facts, may-table, may-clock, ran-served, ran-stays}
+use Rattle.scheduler.proofs.Together.{may-facts, may-table, may-clock, ran-served, ran-stays, moved-is}
 use native.Mathlib.Omega.{arith}
 use borrow.Author.Needs.{needs}
 use Rattle.scheduler.proofs.ticking.run_tick.Statement.{statement}
 use Rattle.scheduler.proofs.ticking.run_tick.Tie as tie
 
 head-of-requires : tie.Need-head-of-requires
-head-of-requires c κs = (may-facts _ (c .before .before .before .pre) .waiting, omega arith)
+head-of-requires c κs = (may-facts _ (c .before .before .before .before .pre) .waiting, omega arith)
+
+delay-requires : tie.Need-delay-requires
+delay-requires c κs = search needs
+
+edge-requires : tie.Need-edge-requires
+edge-requires c κs = search needs
 
 decide-requires : tie.Need-decide-requires
 decide-requires c κs =
-    let may = c .before .before .before .before .pre in
+    let may = c .before .before .before .before .before .before .before .before .before .before .pre in
     let h = may-clock _ may in
     (may-table _ may, omega arith, λ u i from before. absurd (omega arith))
 
 occupant-of-requires : tie.Need-occupant-of-requires
 occupant-of-requires c κs = search needs
 
+by-budget-requires : tie.Need-by-budget-requires
+by-budget-requires c κs = search needs
+
 to-request-requires : tie.Need-to-request-requires
 to-request-requires c κs = search needs
 
+-- what is known once it is told whose turn it is
+module _ (went : tie.After-to-request) where
+  abbrev holds : tie.After-by-budget
+  holds = went .before .before .before
+
+  abbrev who : tie.After-occupant-of
+  who = holds .before
+
+  abbrev d : tie.After-decide
+  d = who .before .before
+
+  abbrev edge : tie.After-edge
+  edge = d .before .before .before
+
+  abbrev period : tie.After-delay
+  period = edge .before
+
+  abbrev head : tie.After-head-of
+  head = period .before .before
+
+  abbrev a : tie.Start
+  a = head .before .before .before .before .before
+
+  abbrev s : State
+  s = a .args .state
+
+  long : length (s .queue .requests) ≡ maxWaiting
+  long = simp length-map at (a .good .0 .1 .1 .1 .1 .0 .1 .1 .0 .1 .0 .1)
+
+  read : edge .edge .result ≡ edgeAt s
+  read = edge .edge .ensures ∙ ap (λ (P : ℕ). edgeWithin P (s .progress .clock) (s .returns)) (period .delay .ensures)
+
+  decided : d .decide .result ≡ decidedBy s 0
+  decided =
+      let waits = ap (λ (h : Head). h .waits) (head .head-of .ensures) in
+      d .decide .ensures (s .queue) (s .returns) (ap₂ _&&_ waits (ap (λ (g : Edge). g .room) read)) (ap (λ (h : Head). h .last) (head .head-of .ensures)) (ap (λ (g : Edge). g .back) read) (a .pre)
+
+  after : (r : Returns) → r ≡ cond (moves (edge .edge .result) (holds .by-budget .result)) (advanced (period .delay .result) (s .progress .clock) (holds .by-budget .result) (s .returns)) (s .returns) →
+      r ≡ stateAfter s .returns
+  after r e =
+      let z : length (s .returns .stretches) ≡ maxHeld = simp length-map at (a .good .0 .1 .1 .1 .1 .1 .0 .1 .1 .0 .1 .0 .1) in
+      e ∙ moved-is s (a .pre) z 0 (d .decide .result) (edge .edge .result) (period .delay .result) (holds .by-budget .result) decided (period .delay .ensures) read (holds .by-budget .ensures)
+
 finish-of-requires : tie.Need-finish-of-requires
 finish-of-requires c κs =
-    let h = may-facts _ (c .before .before .before .before .before .before .before .before .before .pre) in
+    let h = may-facts _ (a (c .before) .pre) in
     (h .clock, h .waiting)
 
 serve-requires : tie.Need-serve-requires
 serve-requires c κs = search needs
 
+moved-requires : tie.Need-moved-requires
+moved-requires c κs = search needs
+
 returns : tie.Need-returns
 returns c =
-    let went = c .before .before .before in
-    let d = went .before .before .before in
-    let head = d .before in
-    let a = head .before .before .before .before in
-    let decided = d .decide .ensures (a .args .state .queue) (head .head-of .ensures) (a .pre) in
-    let l : length (a .args .state .queue .requests) ≡ maxWaiting = simp length-map at (a .good .0 .1 .1 .1 .1 .0 .1 .1 .0 .1 .0 .1) in
-    ran-served (a .args .state) (may-facts _ (a .pre) .waiting) l 0 (d .decide .result) (head .head-of .result) (went .before .occupant-of .result)
-    decided (head .head-of .ensures) (went .before .occupant-of .ensures) (went .to-request .result) (went .to-request .ensures) (c .before .before .if1 .taken)
-    (c .before .finish-of .result) (c .serve .result) (c .before .finish-of .ensures) (c .serve .ensures)
+    let w = c .before .before .before .before in
+    ran-served (s w) (may-facts _ (a w .pre) .waiting) (long w) 0 (d w .decide .result) (head w .head-of .result) (who w .occupant-of .result)
+    (decided w) (head w .head-of .ensures) (who w .occupant-of .ensures) (w .to-request .result) (w .to-request .ensures) (c .before .before .before .if1 .taken)
+    (c .before .before .finish-of .result) (c .before .serve .result) (c .moved .result) (c .before .before .finish-of .ensures) (c .before .serve .ensures) (after w _ (c .moved .ensures))
+
+moved-requires-2 : tie.Need-moved-requires-2
+moved-requires-2 c κs = search needs
 
 returns-2 : tie.Need-returns-2
 returns-2 c =
-    let went = c .before in
-    let d = went .before .before .before in
-    let head = d .before in
-    let a = head .before .before .before .before in
-    let decided = d .decide .ensures (a .args .state .queue) (head .head-of .ensures) (a .pre) in
-    let l : length (a .args .state .queue .requests) ≡ maxWaiting = simp length-map at (a .good .0 .1 .1 .1 .1 .0 .1 .1 .0 .1 .0 .1) in
-    ran-stays (a .args .state) (may-facts _ (a .pre) .waiting) l 0 (d .decide .result) (head .head-of .result) (went .before .occupant-of .result)
-    decided (head .head-of .ensures) (went .before .occupant-of .ensures) (went .to-request .result) (went .to-request .ensures) (c .if1 .left)
+    let w = c .before .before in
+    ran-stays (s w) (may-facts _ (a w .pre) .waiting) (long w) 0 (d w .decide .result) (head w .head-of .result) (who w .occupant-of .result)
+    (decided w) (head w .head-of .ensures) (who w .occupant-of .ensures) (w .to-request .result) (w .to-request .ensures) (c .before .if1 .left)
+    (c .moved2 .result) (after w _ (c .moved2 .ensures))
 
 pub run-tick-spec : {M : Type 1} → statement M
 run-tick-spec =
     tie.close
     (tie.spec
     head-of-requires
+    delay-requires
+    edge-requires
     decide-requires
     occupant-of-requires
+    by-budget-requires
     to-request-requires
     finish-of-requires
     serve-requires
+    moved-requires
     returns
+    moved-requires-2
     returns-2)

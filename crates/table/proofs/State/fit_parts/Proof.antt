@@ -46,12 +46,31 @@ returns-3 c =
 
 lefts-fit-requires : tie.Need-lefts-fit-requires
 lefts-fit-requires c κs =
-    let s = c .before .before .before .before .before .before .before .before .before .before .before .before in
+    let s = c .before .before .before .before .before .before .before .before .before .before .before .before .before .before .before in
     table-facts (s .args .self .table) (s .pre) .count
+
+returns-fit-requires : tie.Need-returns-fit-requires
+returns-fit-requires c κs = search needs
 
 returns-4 : tie.Need-returns-4
 returns-4 c =
     let q = c .before .before .before .before in
+    let f = q .before .before in
+    let s = f .before .before .before .before .before .before .before in
+    sym
+    (fit-order (s .args .self)
+    ∙ rw (
+      s .pre,
+      le-leb (s .args .self .progress .clock) lastClock (omega arith),
+      sym (f .server-state-fits .ensures) ∙ not-false _ (q .before .if2 .left),
+      sym (q .fits2 .ensures) ∙ not-false _ (c .before .before .before .if3 .left),
+      sym (c .before .returns-fit .ensures) ∙ not-true _ (c .if4 .taken),
+    ))
+
+returns-5 : tie.Need-returns-5
+returns-5 c =
+    let r = c .before .before .before .before in
+    let q = r .before .before .before in
     let f = q .before .before in
     let s = f .before .before .before .before .before .before .before in
     c .lefts-fit .ensures
@@ -61,7 +80,8 @@ returns-4 c =
       s .pre,
       le-leb (s .args .self .progress .clock) lastClock (omega arith),
       sym (f .server-state-fits .ensures) ∙ not-false _ (q .before .if2 .left),
-      sym (q .fits2 .ensures) ∙ not-false _ (c .before .before .before .if3 .left),
+      sym (q .fits2 .ensures) ∙ not-false _ (r .before .before .if3 .left),
+      sym (r .returns-fit .ensures) ∙ not-false _ (c .before .before .before .if4 .left),
     ))
 
 pub fit-parts-spec : {M : Type 1} → statement M
@@ -73,5 +93,7 @@ fit-parts-spec =
     returns-2
     fits-requires
     returns-3
+    returns-fit-requires
+    returns-4
     lefts-fit-requires
-    returns-4)
+    returns-5)

@@ -6,7 +6,7 @@ use native.Mathlib.Nat.{le-of-suc-le-suc, not-suc-le-zero}
 use mathlib.Core.Path.{_≡_, refl, ap}
 use mathlib.Core.Bool.{Bool, true, false, _&&_, _||_}
 use mathlib.Core.List.{List, [], _∷_, _++_}
-use lib.ListN.{length, take, drop, getD, set}
+use lib.ListN.{length, take, drop, getD, set, length-append, length-drop}
 use lib.Seq.{take-append-seam, length-take-le}
 
 -- the elements of two lists, joined one by one, as far as both go
@@ -110,6 +110,11 @@ overlay-again {A} new first old h = ap (λ (xs : List A). new ++ xs) (go (length
     go zero (x ∷ first) old h = absurd (not-suc-le-zero h)
     go (suc n) (x ∷ first) [] h = rw (none (length first), none n) at (go n first [] (le-of-suc-le-suc h))
     go (suc n) (x ∷ first) (y ∷ old) h = go n first old (le-of-suc-le-suc h)
+
+-- it is as long as what it is laid over
+pub overlay-length : {A : Type 0} (new old : List A) → length new ≤ length old → length (overlay new old) ≡ length old
+unfolding overlay
+overlay-length new old h = simp (length-append, length-drop) (omega arith)
 
 -- ---- the first slot of an array leaves, and the others move up by one
 -- the first i slots have moved up

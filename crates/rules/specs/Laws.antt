@@ -5,11 +5,11 @@ use native.Mathlib.Omega.{arith}
 use mathlib.Core.Path.{_≡_, refl, ap, sym, subst, _∙_}
 use mathlib.Core.Bool.{Bool, true, false, cond}
 use mathlib.Core.List.{List, [], _∷_}
-use lib.ListN.{length, take, replicate, length-take, length-drop, length-append, length-set}
+use lib.ListN.{length, take, replicate, length-take, length-append, length-set}
 use lib.Dec.{leb, ltb}
 use lib.Seq.{length-take-le}
 use borrow.Author.Tests.{leb-true, le-leb, ltb-true}
-use Rattle.lists.specs.Lists.{count, zipWith, all, allWith, overlay, take-overlay, zip-length}
+use Rattle.lists.specs.Lists.{count, zipWith, all, allWith, overlay, overlay-length, take-overlay, zip-length}
 use Rattle.lists.specs.Tests.{never, and-join, either}
 use Rattle.server.specs.Limits.{lastClock}
 use Rattle.server.specs.declared.Server.{Server}
@@ -57,10 +57,6 @@ pub record Sized (s : State) : Type 0 where
   pub left : length (s .progress .left) ≡ maxTasks
   pub requests : length (s .queue .requests) ≡ maxWaiting
   pub stretches : length (s .returns .stretches) ≡ maxHeld
-
-overlay-length : {A : Type 0} (new old : List A) → length new ≤ length old → length (overlay new old) ≡ length old
-unfolding overlay
-overlay-length new old h = simp (length-append, length-drop) (omega arith)
 
 written-sized : (s : State) (m : Model) → Sized s → length (m .lefts) ≤ maxTasks → length (m .queue) ≤ maxWaiting → length (m .server .returns) ≤ maxHeld → Sized (written s m)
 written-sized s m z a b d = record {

@@ -5,18 +5,19 @@ use native.Mathlib.Numerals.{add-one}
 use mathlib.Core.Path.{_≡_, refl, sym, ap, _∙_}
 use mathlib.Core.Bool.{Bool, true, false, cond, _||_, _&&_}
 use mathlib.Core.List.{List, [], _∷_, _++_}
-use borrow.Author.Tests.{le-leb, lt-leb, lt-ltb, le-ltb, eq-eqb, ne-eqb, eqb-true}
+use borrow.Author.Tests.{leb-true, leb-false, ltb-true, le-leb, lt-leb, lt-ltb, le-ltb, eq-eqb, eqb-true}
 use lib.Dec.{eqb, ltb, leb}
 use lib.ListN.{length, take, drop, getD, set, length-take}
-use lib.Seq.{length-take-le}
+use lib.Seq.{length-take-le, set-getD}
 use Rattle.lists.specs.Tests.{never, and-split}
-use Rattle.lists.specs.Lists.{overlay, overlay-take, overlay-push, length-push}
+use Rattle.lists.specs.Lists.{overlay, overlay-take, overlay-push, overlay-length, length-push, shifted, shifted-all}
 use Rattle.server.specs.declared.Stretch.{Stretch}
 use Rattle.server.specs.declared.Returns.{Returns}
+use Rattle.server.specs.declared.Slot.{Slot}
 use Rattle.server.specs.Returns.{maxHeld, endOf, heldOf, returnsWith, comesBack, returned, goesOn, roomAt, grown, heldWith, held, laid, returnsFit}
 use Rattle.server.specs.Held.{returned-length}
 use Rattle.server.specs.Consumed.{last32}
-use Rattle.server.specs.Advanced.{noEdge, edgeOf, edgeWithin, heldIf, advanced}
+use Rattle.server.specs.Advanced.{noEdge, edgeOf, edgeWithin, heldIf, slotFor, advanced}
 use Rattle.server.specs.declared.Server.{Server}
 
 abbrev pub returnsOf : List Stretch → ℕ → Returns
@@ -27,16 +28,20 @@ pub on-none : (t : ℕ) (l : List Stretch) (n : ℕ) → n < 1 → false ≡ goe
 on-none t l zero h = refl
 on-none t l (suc n) h = absurd (omega arith)
 
-pub as-it-was : (l : List Stretch) (n : ℕ) → n ≤ length l → returnsOf l n ≡ returnsWith (returnsOf l n) (take n l)
+as-it-was : (l : List Stretch) (n : ℕ) → n ≤ length l → returnsOf l n ≡ returnsWith (returnsOf l n) (take n l)
 as-it-was l n h = rw (overlay-take n l, length-take-le n l h)
 
 module _ (d : Stretch) where
-  pub back-some : (P t : ℕ) (l : List Stretch) (n : ℕ) → 1 ≤ n → n ≤ length l → eqb (getD l 0 d .start + P) t ≡ comesBack P t (take n l)
+  back-some : (P t : ℕ) (l : List Stretch) (n : ℕ) → 1 ≤ n → n ≤ length l → eqb (getD l 0 d .start + P) t ≡ comesBack P t (take n l)
   back-some P t l zero a h = absurd (omega arith)
   back-some P t [] (suc n) a h = absurd (omega arith)
   back-some P t (x ∷ l) (suc n) a h = refl
 
-  pub on-last : (t : ℕ) (l : List Stretch) (i : ℕ) → i < length l → eqb (endOf (getD l i d)) t ≡ goesOn t (take (suc i) l)
+  pub back-all : (P t : ℕ) (l : List Stretch) (n : ℕ) → n ≤ length l → ltb 0 n && eqb (getD l 0 d .start + P) t ≡ comesBack P t (take n l)
+  back-all P t l zero h = refl
+  back-all P t l (suc n) h = rw (lt-ltb 0 (suc n) (omega arith)) (back-some P t l (suc n) (omega arith) h)
+
+  on-last : (t : ℕ) (l : List Stretch) (i : ℕ) → i < length l → eqb (endOf (getD l i d)) t ≡ goesOn t (take (suc i) l)
   on-last t [] i h = absurd (omega arith)
   on-last t (x ∷ l) zero h = refl
   on-last t (x ∷ []) (suc i) h = absurd (omega arith)
@@ -46,23 +51,14 @@ module _ (d : Stretch) where
   on-some t l zero a h = absurd (omega arith)
   on-some t l (suc i) a h = let e : suc i - 1 ≡ i = omega arith in rw e (on-last t l i (omega arith))
 
-  -- step 3
-  pub gone-none : (P t : ℕ) (l : List Stretch) (n : ℕ) → n < 1 → returnsOf l n ≡ returnsWith (returnsOf l n) (returned P t (take n l))
-  unfolding overlay
-  gone-none P t l zero h = refl
-  gone-none P t l (suc n) h = absurd (omega arith)
-
-  pub gone-later : (P t : ℕ) (l : List Stretch) (n : ℕ) → 1 ≤ n → n ≤ length l → (getD l 0 d .start + P ≡ t → ⊥) →
-      returnsOf l n ≡ returnsWith (returnsOf l n) (returned P t (take n l))
-  gone-later P t l n a h q = rw (sym (back-some P t l n a h) ∙ ne-eqb _ _ q) (as-it-was l n h)
-
-  pub gone-whole : (P t : ℕ) (l : List Stretch) (n : ℕ) → 1 ≤ n → n ≤ length l → getD l 0 d .start + P ≡ t → getD l 0 d .length ≤ 1 →
+  -- step 3: the oldest tick has come back as the last of its stretch, or not the last, or none has
+  gone-whole : (P t : ℕ) (l : List Stretch) (n : ℕ) → 1 ≤ n → n ≤ length l → getD l 0 d .start + P ≡ t → getD l 0 d .length ≤ 1 →
       returnsWith (returnsOf l n) (drop 1 (take n l)) ≡ returnsWith (returnsOf l n) (returned P t (take n l))
   gone-whole P t l zero a h q w = absurd (omega arith)
   gone-whole P t [] (suc n) a h q w = absurd (omega arith)
   gone-whole P t (x ∷ l) (suc n) a h q w = rw (eq-eqb _ _ q, le-leb (x .length) 1 w)
 
-  pub gone-one : (P t : ℕ) (l : List Stretch) (n : ℕ) → 1 ≤ n → n ≤ length l → getD l 0 d .start + P ≡ t → 1 < getD l 0 d .length →
+  gone-one : (P t : ℕ) (l : List Stretch) (n : ℕ) → 1 ≤ n → n ≤ length l → getD l 0 d .start + P ≡ t → 1 < getD l 0 d .length →
       returnsOf (set l 0 (record { start = getD l 0 d .start + 1; length = getD l 0 d .length - 1 })) n ≡
       returnsWith (returnsOf l n) (returned P t (take n l))
   unfolding overlay
@@ -76,6 +72,27 @@ module _ (d : Stretch) where
       again zero l h = refl
       again (suc m) [] h = refl
       again (suc m) (y ∷ l) h = ap (λ (r : List Stretch). y ∷ r) (again m l (omega arith))
+
+  pub due-at : (P t : ℕ) (l : List Stretch) (n : ℕ) → n ≤ length l → comesBack P t (take n l) ≡ true → (1 ≤ n) × (getD l 0 d .start + P ≡ t)
+  due-at P t l zero h e = never refl e
+  due-at P t l (suc n) h e = (omega arith, eqb-true _ _ (back-some P t l (suc n) (omega arith) h ∙ e))
+
+  pub given-whole : (P t : ℕ) (l : List Stretch) (n i : ℕ) → n ≤ length l → comesBack P t (take n l) ≡ true → getD l 0 d .length ≤ 1 → i + 1 ≡ n →
+      returnsOf (shifted l i) (n - 1) ≡ returnsWith (returnsOf l n) (returned P t (take n l))
+  given-whole P t l n i h e w j =
+      let q = due-at P t l n h e in
+      let k : i ≡ n - 1 = omega arith in
+      let all = shifted-all n l (q .0) h in
+      ap (λ (x : ℕ). returnsOf (shifted l x) (n - 1)) k ∙ ap (λ (x : List Stretch). returnsOf x (n - 1)) (all .0)
+      ∙ ap (λ (m : ℕ). returnsOf (overlay (drop 1 (take n l)) l) m) (all .1) ∙ gone-whole P t l n (q .0) h (q .1) w
+
+  pub given-later : (P t : ℕ) (l : List Stretch) (n : ℕ) → n ≤ length l → comesBack P t (take n l) ≡ false → returnsOf l n ≡ returnsWith (returnsOf l n) (returned P t (take n l))
+  given-later P t l n h e = rw e (as-it-was l n h)
+
+  pub given-one : (P t : ℕ) (l : List Stretch) (n : ℕ) → n ≤ length l → comesBack P t (take n l) ≡ true → 1 < getD l 0 d .length →
+      returnsOf (set l 0 (record { start = getD l 0 d .start + 1; length = getD l 0 d .length - 1 })) n ≡
+      returnsWith (returnsOf l n) (returned P t (take n l))
+  given-one P t l n h e w = let q = due-at P t l n h e in gone-one P t l n (q .0) h (q .1) w
 
   -- step 5, on the last stretch
   on-array : (t : ℕ) (l : List Stretch) (i : ℕ) → i < length l → eqb (endOf (getD l i d)) t ≡ true →
@@ -96,7 +113,7 @@ module _ (d : Stretch) where
   or-true true = refl
   or-true false = refl
 
-  pub held-on : (t : ℕ) (l : List Stretch) (n : ℕ) → 1 ≤ n → n ≤ length l → goesOn t (take n l) ≡ true →
+  held-on : (t : ℕ) (l : List Stretch) (n : ℕ) → 1 ≤ n → n ≤ length l → goesOn t (take n l) ≡ true →
       returnsOf (set l (n - 1) (record { start = getD l (n - 1) d .start; length = getD l (n - 1) d .length + 1 })) n ≡ heldWith (returnsOf l n) t
   held-on t l zero a h e = absurd (omega arith)
   held-on t l (suc i) a h e =
@@ -105,25 +122,73 @@ module _ (d : Stretch) where
       rw (q, e, or-true (ltb (length (take (suc i) l)) maxHeld), on-length t l i (omega arith) o)
       (ap (λ (r : List Stretch). returnsOf r (suc i)) (on-array t l i (omega arith) o))
 
--- its length is below the tick's number
-pub too-long : (t : ℕ) (d : Stretch) (l : List Stretch) (n : ℕ) → 1 ≤ n → n ≤ length l → goesOn t (take n l) ≡ true → t < last32 →
-    last32 ≤ getD l (n - 1) d .length → ⊥
-too-long t d l n a h e b q = omega (arith, eqb-true (endOf (getD l (n - 1) d)) t (on-some d t l n a h ∙ e))
-
 -- as one of its own
 grown-push : (t : ℕ) (us : List Stretch) → goesOn t us ≡ false → grown t us ≡ us ++ (record { start = t; length = 1 } ∷ [])
 grown-push t [] e = refl
 grown-push t (u ∷ []) e = rw e
 grown-push t (u ∷ v ∷ us) e = ap (λ (r : List Stretch). u ∷ r) (grown-push t (v ∷ us) e)
 
-pub held-new : (t : ℕ) (l : List Stretch) (n : ℕ) → n < maxHeld → n < length l → goesOn t (take n l) ≡ false →
+held-new : (t : ℕ) (l : List Stretch) (n : ℕ) → n < maxHeld → n < length l → goesOn t (take n l) ≡ false →
     returnsOf (set l n (record { start = t; length = 1 })) (n + 1) ≡ heldWith (returnsOf l n) t
 held-new t l n a h e =
     let u : Stretch = record { start = t; length = 1 } in
     rw (length-take-le n l (omega arith), lt-ltb n maxHeld a, grown-push t (take n l) e, overlay-push n l u h, length-push n l u h, add-one)
 
-pub held-full : (t : ℕ) (l : List Stretch) (n : ℕ) → maxHeld ≤ n → n ≤ length l → goesOn t (take n l) ≡ false → returnsOf l n ≡ heldWith (returnsOf l n) t
+held-full : (t : ℕ) (l : List Stretch) (n : ℕ) → maxHeld ≤ n → n ≤ length l → goesOn t (take n l) ≡ false → returnsOf l n ≡ heldWith (returnsOf l n) t
 held-full t l n a h e = rw (length-take-le n l h, le-ltb n maxHeld a, e)
+
+-- the slot
+pub slot-on : (last : Stretch) (n t : ℕ) → ltb 0 n && eqb (endOf last) t ≡ true →
+    record { at = n - 1; stretch = record { start = last .start; length = last .length + 1 }; n = n } ≡ slotFor last n t
+slot-on last n t e = rw e
+
+pub slot-full : (last : Stretch) (n t : ℕ) → ltb 0 n && eqb (endOf last) t ≡ false → maxHeld ≤ n → record { at = n - 1; stretch = last; n = n } ≡ slotFor last n t
+slot-full last n t e h = rw (e, le-leb maxHeld n h)
+
+pub slot-new : (last : Stretch) (n t : ℕ) → ltb 0 n && eqb (endOf last) t ≡ false → n < maxHeld →
+    record { at = n; stretch = record { start = t; length = 1 }; n = n + 1 } ≡ slotFor last n t
+slot-new last n t e h = rw (e, lt-leb maxHeld n h)
+
+pub slot-some : (n : ℕ) (b : Bool) → ltb 0 n && b ≡ true → 0 < n
+slot-some n b e = ltb-true 0 n (and-split (ltb 0 n) b e .0)
+
+pub slot-short : (last : Stretch) (n t : ℕ) → ltb 0 n && eqb (endOf last) t ≡ true → t < last32 → last .length < last32
+slot-short last n t e h = omega (arith, eqb-true (endOf last) t (and-split (ltb 0 n) (eqb (endOf last) t) e .1))
+
+pub slot-at : (last : Stretch) (n t : ℕ) → n ≤ maxHeld → slotFor last n t .at < maxHeld
+slot-at last n t h = go (ltb 0 n && eqb (endOf last) t) (leb maxHeld n) refl
+  where
+    go : (b f : Bool) → leb maxHeld n ≡ f →
+        let h : Slot = cond b (record { at = n - 1; stretch = record { start = last .start; length = last .length + 1 }; n = n })
+        (cond f (record { at = n - 1; stretch = last; n = n }) (record { at = n; stretch = record { start = t; length = 1 }; n = n + 1 })) in
+        h .at < maxHeld
+    go true f e = omega arith
+    go false true e = omega arith
+    go false false e = leb-false maxHeld n e
+
+-- a tick held in its slot
+module _ (d : Stretch) (t : ℕ) (l : List Stretch) (n : ℕ) (few : n ≤ maxHeld) (long : length l ≡ maxHeld) where
+  abbrev last : Stretch
+  last = getD l (n - 1) d
+
+  on-all : ltb 0 n && eqb (endOf last) t ≡ goesOn t (take n l)
+  on-all = go n (omega arith)
+    where
+      go : (n : ℕ) → n ≤ length l → ltb 0 n && eqb (endOf (getD l (n - 1) d)) t ≡ goesOn t (take n l)
+      go zero h = refl
+      go (suc n) h = rw (lt-ltb 0 (suc n) (omega arith)) (on-some d t l (suc n) (omega arith) h)
+
+  pub held-slot : returnsOf (set l (slotFor last n t .at) (slotFor last n t .stretch)) (slotFor last n t .n) ≡ heldWith (returnsOf l n) t
+  held-slot = go (ltb 0 n && eqb (endOf last) t) refl (leb maxHeld n) refl
+    where
+      go : (b : Bool) → ltb 0 n && eqb (endOf last) t ≡ b → (f : Bool) → leb maxHeld n ≡ f →
+          let h : Slot = cond b (record { at = n - 1; stretch = record { start = last .start; length = last .length + 1 }; n = n })
+          (cond f (record { at = n - 1; stretch = last; n = n }) (record { at = n; stretch = record { start = t; length = 1 }; n = n + 1 })) in
+          returnsOf (set l (h .at) (h .stretch)) (h .n) ≡ heldWith (returnsOf l n) t
+      go true e f q = held-on d t l n (slot-some n (eqb (endOf last) t) e) (omega arith) (sym on-all ∙ e)
+      go false e true q =
+          ap (λ (x : List Stretch). returnsOf x n) (set-getD l (n - 1) d) ∙ held-full t l n (leb-true maxHeld n q) (omega arith) (sym on-all ∙ e)
+      go false e false q = held-new t l n (leb-false maxHeld n q) (omega (arith, leb-false maxHeld n q)) (sym on-all ∙ e)
 
 -- room
 pub room-few : (t : ℕ) (l : List Stretch) (n : ℕ) → n < maxHeld → n ≤ length l → true ≡ roomAt t (take n l)
@@ -205,8 +270,14 @@ module _ (P t : ℕ) (r : Returns) (few : r .n ≤ maxHeld) (some : 1 ≤ P) (ea
   pub advance-not : (serves : Bool) (x : Returns) → x ≡ returnsWith r (returned P t (heldOf r)) → serves ≡ false → x ≡ advanced P t serves r
   advance-not serves x ex e = ex ∙ sym (rw e (advanced-is false))
 
+  few-given : length (returned P t (heldOf r)) ≤ maxHeld
+  few-given = omega (arith, returned-length P t (heldOf r), length-take (r .n) (r .stretches))
+
   pub given-few : (x : Returns) → x ≡ returnsWith r (returned P t (heldOf r)) → x .n ≤ maxHeld
-  given-few x e = rw e (omega (arith, returned-length P t (heldOf r), length-take (r .n) (r .stretches)))
+  given-few x e = rw e few-given
+
+  pub given-long : length (r .stretches) ≡ maxHeld → (x : Returns) → x ≡ returnsWith r (returned P t (heldOf r)) → length (x .stretches) ≡ maxHeld
+  given-long z x e = rw e (overlay-length (returned P t (heldOf r)) (r .stretches) (omega (arith, few-given))) ∙ z
 
 -- fitness, one stretch at a time
 module _ (d : Stretch) where

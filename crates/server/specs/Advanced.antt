@@ -1,18 +1,19 @@
 -- Kind 4's steps as the code takes them: a tick reads the facts of an `Edge`, and moves the array of returns where a held tick
 -- comes back or a tick is served. Of states that pass no check the array stays as it is.
-use Prim.Native.Nat.{ℕ, _+_}
+use Prim.Native.Nat.{ℕ, _+_, _-_}
 use mathlib.Core.Bool.{Bool, true, false, cond, _&&_, _||_}
 use mathlib.Core.List.{List}
-use lib.Dec.{leb, ltb}
+use lib.Dec.{leb, ltb, eqb}
 use Rattle.server.specs.declared.Server.{Server}
 use Rattle.server.specs.declared.ServerState.{ServerState}
 use Rattle.server.specs.declared.Stretch.{Stretch}
 use Rattle.server.specs.declared.Returns.{Returns}
 use Rattle.server.specs.declared.Edge.{Edge}
+use Rattle.server.specs.declared.Slot.{Slot}
 use Rattle.server.specs.Consumed.{last32}
 use Rattle.server.specs.Kind.{Kind, background, polling, deferrable, sporadic, returning, kindOf}
 use Rattle.server.specs.Server.{withBudget, replenish}
-use Rattle.server.specs.Returns.{maxHeld, heldOf, returnsWith, comesBack, returned, roomAt, heldWith}
+use Rattle.server.specs.Returns.{maxHeld, endOf, heldOf, returnsWith, comesBack, returned, roomAt, heldWith}
 
 -- ---- what a tick reads
 -- how many ticks after its service a tick comes back: the period under kind 4, and 0 under the others, which hold none
@@ -61,6 +62,13 @@ replenishedBy s x t busy back = replenishedFor (kindOf (s .kind)) s x t busy bac
 -- a served tick is held
 abbrev pub heldIf : Bool → ℕ → Returns → Returns
 heldIf serves t r = cond serves (heldWith r t) r
+
+-- the slot that holds it, and how many are held then, by the last of the n stretches that are; where there is no room, the last as it is
+abbrev pub slotFor : Stretch → ℕ → ℕ → Slot
+slotFor last n t =
+    cond (ltb 0 n && eqb (endOf last) t) (record { at = n - 1; stretch = record { start = last .start; length = last .length + 1 }; n = n })
+    (cond (leb maxHeld n) (record { at = n - 1; stretch = last; n = n })
+    (record { at = n; stretch = record { start = t; length = 1 }; n = n + 1 }))
 
 -- where the count and the period keep their limits, and tick t is not the last number of 32 bits
 abbrev pub mayAdvance : ℕ → ℕ → Returns → Bool

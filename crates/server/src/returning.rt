@@ -4,14 +4,14 @@ ghost use mathlib.Core.Path.{_≡_};
 ghost use Prim.Native.Nat.{_≤_, _<_};
 ghost use Prim.Native.Nat.{_-_};
 ghost use mathlib.Core.Bool.{true, false};
-ghost use lib.ListN.{drop};
 ghost use Rattle.server.specs.Consumed.{last32};
-ghost use Rattle.server.specs.Returns.{maxHeld, heldOf, returnsWith, returned, roomAt, goesOn, heldWith, freshReturns, returnsFit};
-ghost use Rattle.server.specs.Advanced.{noEdge, edgeWithin, regained, advanced};
+ghost use Rattle.server.specs.Returns.{maxHeld, heldOf, comesBack, roomAt, freshReturns, returnsFit};
+ghost use Rattle.server.specs.Advanced.{noEdge, edgeWithin, regained, slotFor, advanced};
 use crate::Edge;
 use crate::Returns;
 use crate::Server;
 use crate::ServerState;
+use crate::Slot;
 use crate::Stretch;
 use crate::periodic::with_budget;
 
@@ -110,26 +110,22 @@ impl Returns {
         start + last.length as u64 == t as u64
     }
 
-    // Whether tick t goes on the last stretch.
-    fn goes_on(self, t: u32) -> bool
+    // Whether the oldest held tick comes back at tick t.
+    fn comes_back(self, period: u32, t: u32) -> bool
         requires { ⌜ self .n ≤ maxHeld ⌝ }
-        ensures { λ r. ⌜ r ≡ goesOn t (heldOf self) ⌝ }
+        ensures { λ r. ⌜ r ≡ comesBack period t (heldOf self) ⌝ }
     {
-        let n = self.n;
-        if n < 1 {
-            return false;
-        }
-        let at = n as usize - 1;
-        let last = self.stretches[at];
-        let start = last.start as u64;
-        start + last.length as u64 == t as u64
+        let oldest = self.stretches[0];
+        let start = oldest.start as u64;
+        (0 < self.n) & (start + period as u64 == t as u64)
     }
 }
 
 // ---- moving
 impl Returns {
     // Steps 3 and 5 of kind 4: what comes back at tick t is gone, and a served tick is held. What passes its limits, which no fit
-    // state's does, stays as it is.
+    // state's does, stays as it is, and so does a tick that there is no room for, which no eligible one is. (One function changes the
+    // array: between two it would be copied.)
     pub fn advance(self, period: u32, t: u32, serves: bool) -> Returns
         ensures { λ r. ⌜ r ≡ advanced period t serves self ⌝ }
     {
@@ -143,100 +139,81 @@ impl Returns {
         if Server::LAST32 <= t {
             return self;
         }
-        let given = self.give_back(period, t);
-        if serves {
-            return given.hold(t);
-        }
-        given
-    }
-
-    // The oldest held tick is gone if it comes back at tick t.
-    fn give_back(self, period: u32, t: u32) -> Returns
-        requires { ⌜ (self .n ≤ maxHeld) × (1 ≤ period) ⌝ }
-        ensures { λ r. ⌜ r ≡ returnsWith self (returned period t (heldOf self)) ⌝ }
-    {
-        let n = self.n;
-        if n < 1 {
-            return self;
-        }
-        let oldest = self.stretches[0];
-        let start = oldest.start as u64;
-        let back = start + period as u64;
-        if back == t as u64 {
-            if oldest.length <= 1 {
-                return self.without_oldest();
-            }
-            let mut next = self;
-            next.stretches[0] = Stretch {
-                start: oldest.start + 1,
-                length: oldest.length - 1,
-            };
-            return next;
-        }
-        self
-    }
-
-    // The others move up by one slot; the last slot in use keeps what it held.
-    fn without_oldest(self) -> Returns
-        requires { ⌜ (1 ≤ self .n) × (self .n ≤ maxHeld) ⌝ }
-        ensures { λ r. ⌜ r ≡ returnsWith self (drop 1 (heldOf self)) ⌝ }
-    {
-        let n = self.n as usize;
-        let mut stretches = self.stretches;
-        let mut i: usize = 0;
-        while i + 1 < n {
-            let next = stretches[i + 1];
-            stretches[i] = next;
-            i += 1;
-        }
-        Returns {
-            stretches,
-            n: self.n - 1,
-        }
-    }
-
-    // A served tick t is held, on the last stretch or as one of its own. Where there is no room, which no eligible tick meets, the
-    // returns stay.
-    fn hold(self, t: u32) -> Returns
-        requires { ⌜ (self .n ≤ maxHeld) × (t < last32) ⌝ }
-        ensures { λ r. ⌜ r ≡ heldWith self t ⌝ }
-    {
-        let n = self.n;
-        if self.goes_on(t) {
-            return self.lengthened(t);
-        }
-        if Returns::CAPACITY <= n {
-            return self;
-        }
-        let at = n as usize;
         let mut next = self;
-        next.stretches[at] = Stretch {
+        if self.comes_back(period, t) {
+            let oldest = next.stretches[0];
+            if oldest.length <= 1 {
+                // the others move up by one slot; the last slot in use keeps what it held
+                let used = n as usize;
+                let mut i: usize = 0;
+                while i + 1 < used {
+                    let later = next.stretches[i + 1];
+                    next.stretches[i] = later;
+                    i += 1;
+                }
+                next.n = n - 1;
+            } else {
+                next.stretches[0] = Stretch {
+                    start: oldest.start + 1,
+                    length: oldest.length - 1,
+                };
+            }
+        }
+        if serves {
+            let m = next.n;
+            let end = last_slot(m);
+            let last = next.stretches[end];
+            let held = slot_for(last, m, t);
+            let at = held.at;
+            let stretch = held.stretch;
+            next.stretches[at] = stretch;
+            next.n = held.n;
+        }
+        next
+    }
+}
+
+// The last slot in use; of none the first.
+fn last_slot(n: u32) -> usize
+    ensures { λ r. ⌜ r ≡ n - 1 ⌝ }
+{
+    if n < 1 {
+        return 0;
+    }
+    n as usize - 1
+}
+
+// Where a served tick t is held: on the last of n stretches, or as one of its own; and where there is no room, the last as it is.
+fn slot_for(last: Stretch, n: u32, t: u32) -> Slot
+    requires { ⌜ (n ≤ maxHeld) × (t < last32) ⌝ }
+    ensures { λ r. ⌜ r ≡ slotFor last n t ⌝ }
+{
+    let start = last.start as u64;
+    let goes_on = (0 < n) & (start + last.length as u64 == t as u64);
+    if goes_on {
+        return Slot {
+            at: n as usize - 1,
+            stretch: Stretch {
+                start: last.start,
+                length: last.length + 1,
+            },
+            n,
+        };
+    }
+    if Returns::CAPACITY <= n {
+        return Slot {
+            at: n as usize - 1,
+            stretch: last,
+            n,
+        };
+    }
+    Slot {
+        at: n as usize,
+        stretch: Stretch {
             start: t,
             length: 1,
-        };
-        next.n = n + 1;
-        next
-    }
-
-    // The last stretch ends at t, and has t too.
-    fn lengthened(self, t: u32) -> Returns
-        requires { ⌜ (self .n ≤ maxHeld) × (t < last32) × (goesOn t (heldOf self) ≡ true) ⌝ }
-        ensures { λ r. ⌜ r ≡ heldWith self t ⌝ }
-    {
-        let n = self.n;
-        if n < 1 {
-            return self;
-        }
-        let at = n as usize - 1;
-        let mut last = self.stretches[at];
-        let length = last.length;
-        if Server::LAST32 <= length {
-            return self;
-        }
-        last.length = length + 1;
-        let mut next = self;
-        next.stretches[at] = last;
-        next
+        },
+        n: n + 1,
     }
 }
 

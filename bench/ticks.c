@@ -1,5 +1,6 @@
 /* Ticks through pilqandur.h, for bench/against: the same source is compiled with the header and the archive of each side.
- *   ticks KIND TASKS QUEUE GOES [calls]    QUEUE is 0 or as many requests as the queue takes
+ *   ticks KIND TASKS QUEUE GOES [calls]    QUEUE is 0 none, 1 as many requests as it takes, 2 the same, served in single ticks: task 0 has
+ *                                          every other tick, and under kind 4 some 31 stretches are held
  * prints the least nanoseconds of a tick over so many goes, of a run or, with `calls`, of ticks made one by one; and a sum over what was
  * recorded. */
 #define _POSIX_C_SOURCE 199309L
@@ -20,7 +21,7 @@ static double now(void)
     return t.tv_sec * 1e9 + t.tv_nsec;
 }
 
-static struct pilqandur_table table_of(uint32_t kind, uint32_t n)
+static struct pilqandur_table table_of(uint32_t kind, uint32_t n, int single)
 {
     struct pilqandur_table table = {0};
     table.n = n;
@@ -29,6 +30,10 @@ static struct pilqandur_table table_of(uint32_t kind, uint32_t n)
         table.tasks[i] = (struct pilqandur_task){i, period, n == 1 ? 6 : 1, period};
     }
     table.server = kind == 0 ? (struct pilqandur_server){0, n, 0, 0} : (struct pilqandur_server){kind, n / 2, 10, 3};
+    if (single) {
+        table.tasks[0] = (struct pilqandur_task){0, 2, 1, 2};
+        table.server = (struct pilqandur_server){kind, 1, 63, 31};
+    }
     return table;
 }
 
@@ -53,7 +58,7 @@ int main(int argc, char **argv)
         return 2;
     uint32_t kind = atoi(argv[1]), tasks = atoi(argv[2]);
     int full = atoi(argv[3]), goes = atoi(argv[4]);
-    struct pilqandur_state start = pilqandur_set_up(table_of(kind, tasks)).state;
+    struct pilqandur_state start = pilqandur_set_up(table_of(kind, tasks, full == 2)).state;
     for (uint32_t id = 0, number = 0; full && number == 0; id++) {
         struct pilqandur_moved_result r = pilqandur_request(start, id, 60000);
         number = r.number;

@@ -1,9 +1,8 @@
 // The tick of the tick call: what a tick decides, the part of it that the queue and the returns have, and the answer.
 ghost use Prim.Native.Nat.{_≤_};
-ghost use mathlib.Core.Bool.{cond, true};
+ghost use mathlib.Core.Bool.{true};
 ghost use mathlib.Core.Path.{_≡_};
 ghost use Rattle.server.specs.Limits.{lastClock};
-ghost use Rattle.server.specs.Advanced.{advanced};
 ghost use Rattle.queue.specs.Queue.{maxWaiting, waitingOf, finished};
 ghost use Rattle.rules.specs.Calls.{ticked, ranBy};
 ghost use Rattle.scheduler.specs.Parts.{mayRun};
@@ -18,7 +17,6 @@ use rules::Occupant;
 use rules::TickAnswer;
 use rules::Ticked;
 use rules::Turn;
-use server::Returns;
 use table::State;
 
 // Who has the tick; id is the head request's.
@@ -58,16 +56,6 @@ fn finish_of(t: u32, queue: Queue) -> Finish
     Finish::Nothing
 }
 
-// The returns after tick t: they change where `moves` says so; holds: the tick is served by the budget.
-fn moved(returns: Returns, moves: bool, period: u32, t: u32, holds: bool) -> Returns
-    ensures { λ r. ⌜ r ≡ cond moves (advanced period t holds returns) returns ⌝ }
-{
-    if moves {
-        return returns.advance(period, t, holds);
-    }
-    returns
-}
-
 // A tick of a state that may run one.
 pub fn run_tick(state: State) -> Ticked
     requires { ⌜ mayRun 1 state ≡ true ⌝ }
@@ -76,7 +64,7 @@ pub fn run_tick(state: State) -> Ticked
     let table = state.table;
     let progress = state.progress;
     let queue = state.queue;
-    let returns = state.returns;
+    let mut returns = state.returns;
     let head = head_of(queue, 0);
     let server = table.server;
     let period = server.delay();
@@ -95,6 +83,9 @@ pub fn run_tick(state: State) -> Ticked
     let occupant = occupant_of(turn, head.id);
     let holds = by_budget(turn);
     let moves = edge.back | (edge.holds & holds);
+    if moves {
+        returns = returns.advance(period, t, holds);
+    }
     if to_request(turn) {
         let finish = finish_of(t, queue);
         return Ticked {
@@ -107,7 +98,7 @@ pub fn run_tick(state: State) -> Ticked
                 table,
                 progress: next,
                 queue: queue.serve(),
-                returns: moved(returns, moves, period, t, holds),
+                returns,
             },
         };
     }
@@ -121,7 +112,7 @@ pub fn run_tick(state: State) -> Ticked
             table,
             progress: next,
             queue,
-            returns: moved(returns, moves, period, t, holds),
+            returns,
         },
     }
 }

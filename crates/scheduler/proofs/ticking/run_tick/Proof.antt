@@ -1,9 +1,9 @@
 -- `run_tick` meets its contract: what `decide` gives, the returns as they move, and what the queue's head brings if the tick goes to it.
 use Prim.Native.Nat.{ℕ}
 use mathlib.Core.Bool.{cond, _&&_}
-use mathlib.Core.Path.{_≡_, ap, ap₂, _∙_}
+use mathlib.Core.Path.{_≡_, refl, ap, ap₂, _∙_}
+use mathlib.Core.Logic.{⊎-elim}
 use Rattle.server.specs.declared.Edge.{Edge}
-use Rattle.server.specs.declared.Returns.{Returns}
 use Rattle.server.specs.Advanced.{edgeWithin, advanced, moves}
 use Rattle.table.specs.declared.State.{State}
 use Rattle.rules.specs.Calls.{stateAfter}
@@ -42,8 +42,11 @@ by-budget-requires c κs = search needs
 to-request-requires : tie.Need-to-request-requires
 to-request-requires c κs = search needs
 
--- what is known once it is told whose turn it is
-module _ (went : tie.After-to-request) where
+advance-requires : tie.Need-advance-requires
+advance-requires c κs = search needs
+
+-- what is known once the returns have moved, or not
+module _ (went : tie.Joined1) where
   abbrev holds : tie.After-by-budget
   holds = went .before .before .before
 
@@ -79,39 +82,38 @@ module _ (went : tie.After-to-request) where
       let waits = ap (λ (h : Head). h .waits) (head .head-of .ensures) in
       d .decide .ensures (s .queue) (s .returns) (ap₂ _&&_ waits (ap (λ (g : Edge). g .room) read)) (ap (λ (h : Head). h .last) (head .head-of .ensures)) (ap (λ (g : Edge). g .back) read) (a .pre)
 
-  after : (r : Returns) → r ≡ cond (moves (edge .edge .result) (holds .by-budget .result)) (advanced (period .delay .result) (s .progress .clock) (holds .by-budget .result) (s .returns)) (s .returns) →
-      r ≡ stateAfter s .returns
-  after r e =
+  kept : went .if1 .returns ≡
+      cond (moves (edge .edge .result) (holds .by-budget .result)) (advanced (period .delay .result) (s .progress .clock) (holds .by-budget .result) (s .returns)) (s .returns)
+  kept = ⊎-elim (λ w. w .2 ∙ rw (w .0 .taken) (w .1 .ensures)) (λ w. w .1 ∙ rw (w .0 .left) refl) (went .if1 .came)
+
+  after : went .if1 .returns ≡ stateAfter s .returns
+  after =
       let z : length (s .returns .stretches) ≡ maxHeld = simp length-map at (a .good .0 .1 .1 .1 .1 .1 .0 .1 .1 .0 .1 .0 .1) in
-      e ∙ moved-is s (a .pre) z 0 (d .decide .result) (edge .edge .result) (period .delay .result) (holds .by-budget .result) decided (period .delay .ensures) read (holds .by-budget .ensures)
+      kept ∙ moved-is s (a .pre) z 0 (d .decide .result) (edge .edge .result) (period .delay .result) (holds .by-budget .result) decided (period .delay .ensures) read (holds .by-budget .ensures)
 
 finish-of-requires : tie.Need-finish-of-requires
 finish-of-requires c κs =
-    let h = may-facts _ (a (c .before) .pre) in
+    let h = may-facts _ (a (c .before .before) .pre) in
     (h .clock, h .waiting)
 
 serve-requires : tie.Need-serve-requires
 serve-requires c κs = search needs
 
-moved-requires : tie.Need-moved-requires
-moved-requires c κs = search needs
-
 returns : tie.Need-returns
 returns c =
-    let w = c .before .before .before .before in
+    let t = c .before .before .before in
+    let w = t .before in
     ran-served (s w) (may-facts _ (a w .pre) .waiting) (long w) 0 (d w .decide .result) (head w .head-of .result) (who w .occupant-of .result)
-    (decided w) (head w .head-of .ensures) (who w .occupant-of .ensures) (w .to-request .result) (w .to-request .ensures) (c .before .before .before .if1 .taken)
-    (c .before .before .finish-of .result) (c .before .serve .result) (c .moved .result) (c .before .before .finish-of .ensures) (c .before .serve .ensures) (after w _ (c .moved .ensures))
-
-moved-requires-2 : tie.Need-moved-requires-2
-moved-requires-2 c κs = search needs
+    (decided w) (head w .head-of .ensures) (who w .occupant-of .ensures) (t .to-request .result) (t .to-request .ensures) (c .before .before .if2 .taken)
+    (c .before .finish-of .result) (c .serve .result) (w .if1 .returns) (c .before .finish-of .ensures) (c .serve .ensures) (after w)
 
 returns-2 : tie.Need-returns-2
 returns-2 c =
-    let w = c .before .before in
+    let t = c .before in
+    let w = t .before in
     ran-stays (s w) (may-facts _ (a w .pre) .waiting) (long w) 0 (d w .decide .result) (head w .head-of .result) (who w .occupant-of .result)
-    (decided w) (head w .head-of .ensures) (who w .occupant-of .ensures) (w .to-request .result) (w .to-request .ensures) (c .before .if1 .left)
-    (c .moved2 .result) (after w _ (c .moved2 .ensures))
+    (decided w) (head w .head-of .ensures) (who w .occupant-of .ensures) (t .to-request .result) (t .to-request .ensures) (c .if2 .left)
+    (w .if1 .returns) (after w)
 
 pub run-tick-spec : {M : Type 1} → statement M
 run-tick-spec =
@@ -123,10 +125,9 @@ run-tick-spec =
     decide-requires
     occupant-of-requires
     by-budget-requires
+    advance-requires
     to-request-requires
     finish-of-requires
     serve-requires
-    moved-requires
     returns
-    moved-requires-2
     returns-2)

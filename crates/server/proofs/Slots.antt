@@ -23,11 +23,6 @@ use Rattle.server.specs.declared.Server.{Server}
 abbrev pub returnsOf : List Stretch → ℕ → Returns
 returnsOf l n = record { stretches = l; n = n }
 
--- nothing is held
-pub on-none : (t : ℕ) (l : List Stretch) (n : ℕ) → n < 1 → false ≡ goesOn t (take n l)
-on-none t l zero h = refl
-on-none t l (suc n) h = absurd (omega arith)
-
 as-it-was : (l : List Stretch) (n : ℕ) → n ≤ length l → returnsOf l n ≡ returnsWith (returnsOf l n) (take n l)
 as-it-was l n h = rw (overlay-take n l, length-take-le n l h)
 

@@ -1,4 +1,4 @@
-"""Reads a plan by document 01's rules, and tells in words why one is refused.
+"""Reads a plan by the rules of documents 01 and 02, and tells in words why one is refused.
 
     plan.read(data)      a Plan, or raises Refused: the two numbers of `schedule`'s Z line, and words that name line, field and limit
 
@@ -15,6 +15,7 @@ MOST_DIGITS = 10
 MOST_NUMBER = 4_294_967_295
 KINDS = ["background", "polling", "deferrable", "sporadic", "returning"]
 
+PADDED = re.compile(rb",0+(?=[0-9])")  # a comma and leading zeros
 SHOWN = 40  # characters of a plan's text that the words show
 
 
@@ -188,10 +189,9 @@ def bad_number(name, field):
     most = LARGEST.get(name, MOST_NUMBER)
     if not field:
         return f"{name} is empty; write a number there"
-    if field.startswith(b"0") and field != b"0":
-        return f"{name} {show(field)} has a leading zero; take it out"
     if len(field) > MOST_DIGITS:
-        return f"{name} {show(field)} has {len(field)} digits, and a number has at most {MOST_DIGITS}"
+        zeros = ", leading zeros included," if field.startswith(b"0") else ","
+        return f"{name} {show(field)} has {len(field)} digits{zeros} and a number has at most {MOST_DIGITS}"
     if int(field) > most:
         return f"{name} {int(field)} is above {most}, the largest allowed"
     return None
@@ -300,7 +300,8 @@ def check_table(tasks, server):
 def read(data):
     """The plan that these bytes hold."""
     if len(data) > MOST_BYTES:
-        raise Refused(7, 0, f"the plan has more than {MOST_BYTES} bytes; leave A lines out, or make two plans of it")
+        what = "leading zeros" if PADDED.search(data) else "A lines"
+        raise Refused(7, 0, f"the plan has more than {MOST_BYTES} bytes; leave {what} out, or make two plans of it")
     lines = read_lines(data)
     [server], [run] = lines["S"], lines["R"]
     check_table(lines["T"], server)

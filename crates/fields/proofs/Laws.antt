@@ -5,7 +5,7 @@ use mathlib.Core.List.{List, [], _∷_}
 use mathlib.Core.Bool.{Bool, true, false, cond, _&&_}
 use native.Mathlib.Omega.{arith}
 use native.Mathlib.Numerals.{add-one}
-use borrow.Author.Tests.{eq-eqb, ne-eqb, le-leb, lt-leb}
+use borrow.Author.Tests.{le-leb, lt-leb}
 use lib.ListN.{length, getD, drop, drop-of-length-le}
 use lib.Seq.{drop-cons}
 use lib.Dec.{leb}
@@ -48,15 +48,11 @@ module _ (s : List ℕ) where
   unfolding readNumber numberTests
   too-long h = let k : 1 ≤ length s = omega arith in simp (le-leb _ _ k, lt-leb _ _ h)
 
-  pub leads : (length s ≡ 1 → ⊥) → (length s ≡ 0 → ⊥) → length s ≤ maxDigits → getD s 0 0 ≡ 48 → Number.Wrong ≡ readNumber s
-  unfolding readNumber numberTests
-  leads h z m e = let k : 1 ≤ length s = omega arith in simp (le-leb _ _ k, le-leb _ _ m, eq-eqb _ _ e, ne-eqb _ _ h)
-
-  pub starts : (length s ≡ 0 → ⊥) → length s ≤ maxDigits → (getD s 0 0 ≡ 48 → ⊥) → readNumber s ≡ rest 0 s
+  pub starts : (length s ≡ 0 → ⊥) → length s ≤ maxDigits → readNumber s ≡ rest 0 s
   unfolding readNumber numberTests rest
-  starts z m e =
+  starts z m =
       let k : 1 ≤ length s = omega arith in
-      simp (le-leb _ _ k, le-leb _ _ m, ne-eqb _ _ e) (nested (digits s) (leb (valueFrom 0 s) maxNumber) (Number.Is (valueFrom 0 s)) Number.Wrong)
+      simp (le-leb _ _ k, le-leb _ _ m) (nested (digits s) (leb (valueFrom 0 s) maxNumber) (Number.Is (valueFrom 0 s)) Number.Wrong)
 
   module _ (v i n : ℕ) (len : n ≡ length s) (below : i < n) where
     h : i < length s
@@ -77,12 +73,6 @@ module _ (s : List ℕ) where
   pub ends : (v i n : ℕ) → n ≡ length s → n ≤ i → v ≤ maxNumber → rest v (drop i s) ≡ Number.Is v
   unfolding rest digits valueFrom
   ends v i n len h m = let k : length s ≤ i = omega arith in rw (drop-of-length-le s k) (simp (le-leb _ _ m))
-
-pub zero-alone : (s : List ℕ) → length s ≡ 1 → getD s 0 0 ≡ 48 → Number.Is 0 ≡ readNumber s
-unfolding readNumber numberTests digits valueFrom
-zero-alone [] h e = absurd (omega arith)
-zero-alone (x ∷ []) h e = sym (ap (λ (n : ℕ). readNumber (n ∷ [])) e)
-zero-alone (x ∷ y ∷ t) h e = absurd (omega arith)
 
 module _ (n : Number) (k : ℕ) (e : n ≡ Number.Is k) where
   pub run-fits : k ≤ maxTicks → Line.R k ≡ runLine n

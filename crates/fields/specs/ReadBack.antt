@@ -4,14 +4,14 @@ use mathlib.Core.Path.{_≡_, refl, ap, _∙_}
 use mathlib.Core.Bool.{Bool, true, false, cond}
 use mathlib.Core.List.{List, [], _∷_, _++_}
 use native.Mathlib.Omega.{arith}
-use borrow.Author.Tests.{le-leb, eq-eqb, ne-eqb, leb-true, eqb-true}
-use lib.ListN.{length, getD}
+use borrow.Author.Tests.{le-leb, eq-eqb, ne-eqb, leb-true}
+use lib.ListN.{length}
 use lib.Dec.{leb, eqb}
 use Rattle.lists.specs.Tests.{every, facts-every, and-split, never}
 use Rattle.server.specs.declared.Server.{Server}
 use Rattle.table.specs.declared.Task.{Task}
 use Rattle.text.specs.Decimal.{maxDigits, decimal, isDigit, digits, valueFrom}
-use Rattle.text.specs.ReadBack.{decimal-short, decimal-some, decimal-digits, decimal-value, decimal-leads}
+use Rattle.text.specs.ReadBack.{decimal-short, decimal-some, decimal-digits, decimal-value}
 use Rattle.fields.specs.declared.Number.{Number}
 use Rattle.fields.specs.declared.Arrival.{Arrival}
 use Rattle.fields.specs.declared.Line.{Line}
@@ -19,17 +19,13 @@ use Rattle.fields.specs.Text.{end, piece, grow, split, maxNumber, number
 use Rattle.fields.specs.Lines.{are, push, withField, eachNumber, numbers, oneOf, threeOf, fourOf, maxTicks, byLetter, lineOf}
 
 -- ---- a number
-leads-test : (x : ℕ) → x < 10 ^ maxDigits → (b : Bool) → eqb (getD (decimal x) 0 0) 48 ≡ b → cond b (eqb (length (decimal x)) 1) true ≡ true
-leads-test x h true e = eq-eqb _ _ (decimal-leads x h (eqb-true _ _ e))
-leads-test x h false e = refl
-
 pub number-back : (x : ℕ) → x ≤ maxNumber → readNumber (decimal x) ≡ Number.Is x
 unfolding readNumber numberTests
 number-back x h =
     let k : x < 10 ^ maxDigits = omega arith in
     let m : valueFrom 0 (decimal x) ≤ maxNumber = omega (arith, decimal-value x k) in
     let passes : every (numberTests (decimal x)) ≡ true = facts-every (numberTests (decimal x))
-    (le-leb _ _ (decimal-some x), (le-leb _ _ (decimal-short x), (leads-test x k (eqb (getD (decimal x) 0 0) 48) refl, (decimal-digits x, (le-leb _ _ m, tt))))) in
+    (le-leb _ _ (decimal-some x), (le-leb _ _ (decimal-short x), (decimal-digits x, (le-leb _ _ m, tt)))) in
     ap (λ (b : Bool). cond b (Number.Is (valueFrom 0 (decimal x))) Number.Wrong) passes ∙ ap Number.Is (decimal-value x k)
 
 -- ---- fields

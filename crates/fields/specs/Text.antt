@@ -1,8 +1,8 @@
 -- Text: a stretch of bytes parted at a byte, and a decimal number.
 use Prim.Native.Nat.{ℕ}
-use mathlib.Core.Bool.{Bool, true, cond}
+use mathlib.Core.Bool.{Bool, cond}
 use mathlib.Core.List.{List, [], _∷_}
-use lib.ListN.{length, getD}
+use lib.ListN.{length}
 use lib.Dec.{leb, eqb}
 use Rattle.lists.specs.Tests.{every}
 use Rattle.text.specs.Decimal.{maxDigits, digits, valueFrom}
@@ -27,12 +27,10 @@ split c (x ∷ xs) = cond (eqb x c) (piece [] (split c xs)) (grow x (split c xs)
 abbrev pub maxNumber : ℕ
 maxNumber = 4_294_967_295
 
--- "A number is 1 to 10 digits, no leading zero but `0` itself, at most 4,294,967,295."
+-- "A number is 1 to 10 digits, .. at most 4,294,967,295."; 02: "A number may now have leading zeros; it still has 1 to 10 digits."
 unfoldable pub numberTests : List ℕ → List Bool
-numberTests l =
-    leb 1 (length l) ∷ leb (length l) maxDigits ∷ cond (eqb (getD l 0 0) 48) (eqb (length l) 1) true ∷ digits l
-    ∷ leb (valueFrom 0 l) maxNumber ∷ []
+numberTests l = leb 1 (length l) ∷ leb (length l) maxDigits ∷ digits l ∷ leb (valueFrom 0 l) maxNumber ∷ []
 
--- the number that a field's bytes say
+-- the number that a field's bytes say; 02: "Every line kind reads by the same number rule"
 unfoldable pub readNumber : List ℕ → Number
 readNumber l = cond (every (numberTests l)) (Number.Is (valueFrom 0 l)) Number.Wrong

@@ -78,12 +78,6 @@ fn read_number(s: &[u8]) -> Number
     if text::MAX_DIGITS < n {
         return Number::Wrong;
     }
-    if s[0] == 48 {
-        if n == 1 {
-            return Number::Is(0);
-        }
-        return Number::Wrong;
-    }
     let mut v: u64 = 0;
     let mut i: usize = 0;
     while i < n {

@@ -9,4 +9,5 @@ pub mod Whole
 pub mod Printed
 pub mod PrintedLines
 pub mod ReadBack
+pub mod Padded
 pub mod Cases

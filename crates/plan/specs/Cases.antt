@@ -6,6 +6,7 @@ use lib.ListN.{replicate}
 use Rattle.table.specs.declared.Refusal.{Refusal}
 use Rattle.table.specs.declared.Task.{Task}
 use Rattle.table.specs.declared.Table.{Table}
+use Rattle.fields.specs.Padded.{leading, allowed, padded}
 use Rattle.plan.specs.declared.PlanRefusal.{PlanRefusal}
 use Rattle.plan.specs.declared.Plan.{Plan}
 use Rattle.plan.specs.Plan.{planOf, refusedPlan, acceptedPlan, arrivalsFrom, rules}
@@ -124,6 +125,32 @@ work-past-end : planOf (84 ∷ 44 ∷ 51 ∷ 44 ∷ 54 ∷ 44 ∷ 50 ∷ 44 ∷ 
 unfolding rules
 work-past-end = refl
 
+-- ---- Padded numbers: eleven digits are 8 in every line kind; a padded work of 0 is 4.
+-- `T,00000000003,6,2,6\n`
+eleven-in-task : planOf (84 ∷ 44 ∷ 48 ∷ 48 ∷ 48 ∷ 48 ∷ 48 ∷ 48 ∷ 48 ∷ 48 ∷ 48 ∷ 48 ∷ 51 ∷ 44 ∷ 54 ∷ 44 ∷ 50 ∷ 44 ∷ 54 ∷ 10 ∷ []) ≡ refusedPlan PlanRefusal.BadLine 1
+unfolding rules
+eleven-in-task = refl
+
+-- `T,3,6,2,6\nS,00000000002,0,5,2\n`
+eleven-in-server : planOf (84 ∷ 44 ∷ 51 ∷ 44 ∷ 54 ∷ 44 ∷ 50 ∷ 44 ∷ 54 ∷ 10 ∷ 83 ∷ 44 ∷ 48 ∷ 48 ∷ 48 ∷ 48 ∷ 48 ∷ 48 ∷ 48 ∷ 48 ∷ 48 ∷ 48 ∷ 50 ∷ 44 ∷ 48 ∷ 44 ∷ 53 ∷ 44 ∷ 50 ∷ 10 ∷ []) ≡ refusedPlan PlanRefusal.BadLine 2
+unfolding rules
+eleven-in-server = refl
+
+-- `T,3,6,2,6\nS,2,0,5,2\nA,3,7,00000000004\n`
+eleven-in-arrival : planOf (84 ∷ 44 ∷ 51 ∷ 44 ∷ 54 ∷ 44 ∷ 50 ∷ 44 ∷ 54 ∷ 10 ∷ 83 ∷ 44 ∷ 50 ∷ 44 ∷ 48 ∷ 44 ∷ 53 ∷ 44 ∷ 50 ∷ 10 ∷ 65 ∷ 44 ∷ 51 ∷ 44 ∷ 55 ∷ 44 ∷ 48 ∷ 48 ∷ 48 ∷ 48 ∷ 48 ∷ 48 ∷ 48 ∷ 48 ∷ 48 ∷ 48 ∷ 52 ∷ 10 ∷ []) ≡ refusedPlan PlanRefusal.BadLine 3
+unfolding rules
+eleven-in-arrival = refl
+
+-- `T,3,6,2,6\nS,2,0,5,2\nR,00000000008\n`
+eleven-in-run : planOf (84 ∷ 44 ∷ 51 ∷ 44 ∷ 54 ∷ 44 ∷ 50 ∷ 44 ∷ 54 ∷ 10 ∷ 83 ∷ 44 ∷ 50 ∷ 44 ∷ 48 ∷ 44 ∷ 53 ∷ 44 ∷ 50 ∷ 10 ∷ 82 ∷ 44 ∷ 48 ∷ 48 ∷ 48 ∷ 48 ∷ 48 ∷ 48 ∷ 48 ∷ 48 ∷ 48 ∷ 48 ∷ 56 ∷ 10 ∷ []) ≡ refusedPlan PlanRefusal.BadLine 3
+unfolding rules
+eleven-in-run = refl
+
+-- `T,3,6,2,6\nS,2,0,5,2\nA,3,7,00\nR,8\n`
+padded-work-zero : planOf (84 ∷ 44 ∷ 51 ∷ 44 ∷ 54 ∷ 44 ∷ 50 ∷ 44 ∷ 54 ∷ 10 ∷ 83 ∷ 44 ∷ 50 ∷ 44 ∷ 48 ∷ 44 ∷ 53 ∷ 44 ∷ 50 ∷ 10 ∷ 65 ∷ 44 ∷ 51 ∷ 44 ∷ 55 ∷ 44 ∷ 48 ∷ 48 ∷ 10 ∷ 82 ∷ 44 ∷ 56 ∷ 10 ∷ []) ≡ refusedPlan (PlanRefusal.Call Refusal.BadWork) 3
+unfolding rules
+padded-work-zero = refl
+
 -- ---- The table, after all lines.
 -- `S,0,0,0,0\nR,1\n`
 no-task : planOf (83 ∷ 44 ∷ 48 ∷ 44 ∷ 48 ∷ 44 ∷ 48 ∷ 44 ∷ 48 ∷ 10 ∷ 82 ∷ 44 ∷ 49 ∷ 10 ∷ []) ≡ refusedPlan (PlanRefusal.Call Refusal.TaskCount) 0
@@ -174,6 +201,19 @@ the-listing = refl
 the-arrivals : arrivalsFrom listing 0 ≡ record { tick = 3; id = 7; work = 4 } ∷ []
 unfolding rules
 the-arrivals = refl
+
+-- the same with every field padded to ten digits (02, request 4/13)
+abbrev paddedListing : List ℕ
+paddedListing = 84 ∷ 44 ∷ 48 ∷ 48 ∷ 48 ∷ 48 ∷ 48 ∷ 48 ∷ 48 ∷ 48 ∷ 48 ∷ 51 ∷ 44 ∷ 48 ∷ 48 ∷ 48 ∷ 48 ∷ 48 ∷ 48 ∷ 48 ∷ 48 ∷ 48 ∷ 54 ∷ 44 ∷ 48 ∷ 48 ∷ 48 ∷ 48 ∷ 48 ∷ 48 ∷ 48 ∷ 48 ∷ 48 ∷ 50 ∷ 44 ∷ 48 ∷ 48 ∷ 48 ∷ 48 ∷ 48 ∷ 48 ∷ 48 ∷ 48 ∷ 48 ∷ 54 ∷ 10 ∷ 83 ∷ 44 ∷ 48 ∷ 48 ∷ 48 ∷ 48 ∷ 48 ∷ 48 ∷ 48 ∷ 48 ∷ 48 ∷ 50 ∷ 44 ∷ 48 ∷ 48 ∷ 48 ∷ 48 ∷ 48 ∷ 48 ∷ 48 ∷ 48 ∷ 48 ∷ 48 ∷ 44 ∷ 48 ∷ 48 ∷ 48 ∷ 48 ∷ 48 ∷ 48 ∷ 48 ∷ 48 ∷ 48 ∷ 53 ∷ 44 ∷ 48 ∷ 48 ∷ 48 ∷ 48 ∷ 48 ∷ 48 ∷ 48 ∷ 48 ∷ 48 ∷ 50 ∷ 10 ∷ 65 ∷ 44 ∷ 48 ∷ 48 ∷ 48 ∷ 48 ∷ 48 ∷ 48 ∷ 48 ∷ 48 ∷ 48 ∷ 51 ∷ 44 ∷ 48 ∷ 48 ∷ 48 ∷ 48 ∷ 48 ∷ 48 ∷ 48 ∷ 48 ∷ 48 ∷ 55 ∷ 44 ∷ 48 ∷ 48 ∷ 48 ∷ 48 ∷ 48 ∷ 48 ∷ 48 ∷ 48 ∷ 48 ∷ 52 ∷ 10 ∷ 82 ∷ 44 ∷ 48 ∷ 48 ∷ 48 ∷ 48 ∷ 48 ∷ 48 ∷ 48 ∷ 48 ∷ 48 ∷ 56 ∷ 10 ∷ []
+
+padded-listing : (planOf paddedListing ≡ planOf listing) × (arrivalsFrom paddedListing 0 ≡ arrivalsFrom listing 0)
+unfolding rules
+padded-listing = (refl, refl)
+
+-- it is the listing with nine zeros behind each comma, over the ends of the lines
+padded-so : padded (replicate 12 9) listing ≡ paddedListing
+unfolding leading allowed padded
+padded-so = refl
 
 -- sixteen tasks, works of 1 and 60,000, ids that repeat, equal ticks, and 1,000,000 ticks
 sixteen :

@@ -107,6 +107,7 @@ module _ (x : ℕ) (h : x < 10 ^ maxDigits) where
       let ten : x / 10 ^ p < 10 = div-lt-iff-lt-mul pos .1 (omega arith) in
       rw (mod-eq-of-lt ten) one
 
+  -- 02: "What is printed stays unpadded."
   pub decimal-leads : getD (decimal x) 0 0 ≡ 48 → length (decimal x) ≡ 1
   unfolding decimal digitsOf
   decimal-leads z = by (widthOf x) refl z

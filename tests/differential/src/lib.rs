@@ -1,10 +1,11 @@
-//! The product against the second implementation: random plans through the program, random calls through the library. And the library
-//! against itself: what rows above the server notice of requests.
+//! The product against the second implementation: random plans through the program, random calls through the library. And the product
+//! against itself: a plan with and without zeros before its numbers, what rows above the server notice of requests.
 
 pub mod abi;
 pub mod call;
 pub mod convert;
 pub mod open;
+pub mod padding;
 pub mod pair;
 pub mod plan;
 pub mod program;

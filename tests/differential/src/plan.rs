@@ -1,8 +1,9 @@
-//! Random plans, good and damaged, long and short.
+//! Random plans, good and damaged, long and short, with padded numbers and without.
 
 use second::table::{BACKGROUND, FIELD_MOST, RETURNING, ROWS};
 use second::{Row, Server, Table};
 
+use crate::padding::pad_or_break;
 use crate::random::Random;
 
 /// Values at the edges of every limit of the table and the plan.
@@ -69,7 +70,17 @@ const TEXTS: &[&str] = &[
 
 const LETTERS: &[&str] = &["T", "S", "A", "R", "t", "s", "a", "r", "B", "X", "", "TT", " T", "A ", "\u{feff}T", "Z"];
 
+/// One plan in four, of every sort, has zeros before its numbers.
 pub fn plan(random: &mut Random) -> Vec<u8> {
+    let plan = any_plan(random);
+    if random.once_in(4) {
+        pad_or_break(random, &plan)
+    } else {
+        plan
+    }
+}
+
+fn any_plan(random: &mut Random) -> Vec<u8> {
     match random.below(1000) {
         0..=469 => text(&good(random, 4, 14, 60)),
         470..=499 => text(&many_stretches(random)),
@@ -263,10 +274,12 @@ fn long(random: &mut Random) -> Vec<u8> {
     let mut lines = table_lines(&table(random, 3, 8));
     let tail = format!("R,{}\n", random.from(1, 50));
     let most = random.pick(&[65_520, 65_534, 65_535, 65_536, 65_536, 65_536, 65_537, 65_538, 70_000, 140_000]);
+    // As long with zeros before the id as without.
+    let filler = random.pick(&["A,4000000000,1234567,1\n", "A,4000000000,0001234,1\n"]);
     lines.push(format!("A,0,{},1", random.from(0, 9)));
     let mut bytes = text(&lines);
     while bytes.len() + 24 + tail.len() <= most {
-        bytes.extend_from_slice(b"A,4000000000,1234567,1\n");
+        bytes.extend_from_slice(filler.as_bytes());
     }
     // The last request's id takes up what is left, where one to ten digits can.
     let rest = most.saturating_sub(bytes.len() + tail.len() + b"A,4000000000,,1\n".len());

@@ -1,4 +1,4 @@
-//! Makes a failing plan small: drops lines, then shortens numbers, as long as it still fails.
+//! Makes a failing plan small: drops lines, then makes numbers smaller and takes zeros before them away, as long as it still fails.
 
 /// How many plans may be tried on the way.
 const TRIES: usize = 3_000;
@@ -59,24 +59,23 @@ impl<F: Fn(&[u8]) -> bool> Shrinker<F> {
 
     fn shorten(&mut self, line: usize, field: usize) -> bool {
         let mut shortened = false;
-        while let Some(number) = number(&self.lines[line], field) {
-            let tried = [0, 1, number / 2, number.saturating_sub(1)];
-            let smaller = tried.iter().filter(|&&smaller| smaller < number);
-            let mut candidates = smaller.map(|&smaller| self.with(line, field, smaller)).collect::<Vec<_>>().into_iter();
-            if !candidates.any(|candidate| self.keep(candidate)) {
-                break;
-            }
+        while shorter(self.field(line, field)).iter().any(|text| self.keep(self.with(line, field, text))) {
             shortened = true;
         }
         shortened
     }
 
-    fn with(&self, line: usize, field: usize, number: u64) -> Vec<Vec<u8>> {
+    fn field(&self, line: usize, field: usize) -> &[u8] {
+        let bare = self.lines[line].strip_suffix(b"\n").unwrap_or(&self.lines[line]);
+        bare.split(|&byte| byte == b',').nth(field).unwrap_or_default()
+    }
+
+    fn with(&self, line: usize, field: usize, text: &str) -> Vec<Vec<u8>> {
         let mut lines = self.lines.clone();
         let closed = lines[line].ends_with(b"\n");
         let bare = lines[line].strip_suffix(b"\n").unwrap_or(&lines[line]);
         let mut fields: Vec<Vec<u8>> = bare.split(|&byte| byte == b',').map(<[u8]>::to_vec).collect();
-        fields[field] = number.to_string().into_bytes();
+        fields[field] = text.as_bytes().to_vec();
         lines[line] = fields.join(&b',');
         if closed {
             lines[line].push(b'\n');
@@ -85,8 +84,16 @@ impl<F: Fn(&[u8]) -> bool> Shrinker<F> {
     }
 }
 
-fn number(line: &[u8], field: usize) -> Option<u64> {
-    let bare = line.strip_suffix(b"\n").unwrap_or(line);
-    let text = std::str::from_utf8(bare.split(|&byte| byte == b',').nth(field)?).ok()?;
-    text.parse().ok()
+/// What to try for a number: smaller ones; the same with fewer zeros before it; smaller ones of as many digits, since a plan may fail by
+/// its zeros.
+fn shorter(field: &[u8]) -> Vec<String> {
+    let Some(number) = std::str::from_utf8(field).ok().and_then(|text| text.parse::<u64>().ok()) else { return Vec::new() };
+    let (digits, least) = (field.len(), number.to_string().len());
+    let smaller: Vec<u64> = [0, 1, number / 2, number.saturating_sub(1)].into_iter().filter(|&smaller| smaller < number).collect();
+    let fewer = [least, least + 1, digits - 1].into_iter().filter(|fewer| (least..digits).contains(fewer));
+    let as_wide = smaller.iter().filter(|_| least < digits);
+    let mut texts: Vec<String> = smaller.iter().map(u64::to_string).collect();
+    texts.extend(fewer.map(|fewer| format!("{number:0fewer$}")));
+    texts.extend(as_wide.map(|smaller| format!("{smaller:0digits$}")));
+    texts
 }

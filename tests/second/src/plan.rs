@@ -1,4 +1,4 @@
-//! The plan text and its refusals ("The plan text and `schedule`" in document 01).
+//! The plan text and its refusals ("The plan text and `schedule`" in document 01; its numbers by request 4/13 of document 02).
 
 use crate::refusal::*;
 use crate::state::good_work;
@@ -113,10 +113,10 @@ fn parse(line: &[u8]) -> Option<Line> {
     }
 }
 
-/// "1 to 10 digits, no leading zero but 0 itself, at most 4,294,967,295".
+/// A number is 1 to 10 digits, at most 4,294,967,295 (document 01). "A number may now have leading zeros; it still has 1 to 10 digits"
+/// (document 02, 4/13).
 fn number(digits: &[u8]) -> Option<u32> {
-    let plain = (1..=DIGITS_MOST).contains(&digits.len()) && digits.iter().all(u8::is_ascii_digit);
-    if !plain || (digits.len() > 1 && digits[0] == b'0') {
+    if !(1..=DIGITS_MOST).contains(&digits.len()) || !digits.iter().all(u8::is_ascii_digit) {
         return None;
     }
     let value = digits.iter().fold(0u64, |value, digit| value * 10 + (digit - b'0') as u64);

@@ -1,4 +1,5 @@
-//! Plans and their refusals: document 01's order of grounds, and each point where one could read it two ways.
+//! Plans and their refusals: document 01's order of grounds, numbers with leading zeros (document 02, 4/13), and each point where one could
+//! read the papers two ways.
 
 use second::print::schedule;
 
@@ -32,7 +33,8 @@ fn ends() {
 #[test]
 fn grounds_on_one_line() {
     after_table("A,5,1,1\nA,4,1,0\nR,8\n", "Z,9,4");
-    after_table("A,5,1,1\nA,4,1,01\nR,8\n", "Z,8,4");
+    after_table("A,5,1,1\nA,4,1,01\nR,8\n", "Z,9,4");
+    after_table("A,5,1,1\nA,4,1,00000000001\nR,8\n", "Z,8,4");
     after_table("A,5,1,1\nA,5,1,0\nR,8\n", "Z,4,4");
     after_table("A,5,1,60001\nR,8\n", "Z,4,3");
     after_table("A,5,1,60000\nR,8\n", "B,0,3");
@@ -95,16 +97,15 @@ fn limits_of_a_row() {
 
 #[test]
 fn numbers() {
-    for good in ["0", "10", "4294967295"] {
+    for good in ["0", "00", "01", "10", "0000000000", "0999999999", "4294967295"] {
         after_table(&format!("A,0,{good},1\nR,1\n"), "B,0,3");
     }
     let bad = [
         "",
-        "00",
-        "01",
         "4294967296",
         "9999999999",
         "12345678901",
+        "04294967295",
         "00000000000",
         "+1",
         "-1",
@@ -119,7 +120,137 @@ fn numbers() {
     for number in bad {
         after_table(&format!("A,0,{number},1\nR,1\n"), "Z,8,3");
     }
-    after_table("R,1000000\n", "B,0,3");
+}
+
+/// Document 01's listing: each of its numbers is one digit.
+const LISTING: &str = "T,3,6,2,6\nS,2,0,5,2\nA,3,7,4\nR,8\n";
+
+const LISTING_OUT: &str = "B,0,6\nB,S,2\nV,1\nX,0,I,0,0\nX,1,I,0,0\nX,2,I,0,0\nX,3,A,7,0\nX,4,A,7,0\nX,5,A,7,0\nX,6,A,7,0\nF,6,7,4\n\
+                           X,7,T,0,0\nE,8,3,1,4,0\n";
+
+/// The listing with one number written anew, for each number of its T, S, A and R lines, and the line that it stands in.
+fn each_number(write: impl Fn(&str) -> String) -> Vec<(usize, String)> {
+    let anew = |(at, digit): (usize, &str)| {
+        let line = 1 + LISTING[..at].matches('\n').count();
+        (line, format!("{}{}{}", &LISTING[..at], write(digit), &LISTING[at + 1..]))
+    };
+    LISTING.match_indices(|letter: char| letter.is_ascii_digit()).map(anew).collect()
+}
+
+/// Every number with zeros before it, ten digits in all, as the loggers write them.
+fn padded(plan: &str) -> String {
+    let pad = |line: &str| {
+        let (letter, numbers) = line.split_once(',').expect("a letter and its numbers");
+        numbers.split(',').fold(letter.to_string(), |line, number| format!("{line},{number:0>10}")) + "\n"
+    };
+    plan.lines().map(pad).collect()
+}
+
+#[test]
+fn one_number_padded() {
+    for digits in 1..=10 {
+        for (_, plan) in each_number(|digit| format!("{digit:0>digits$}")) {
+            assert_eq!(schedule(plan.as_bytes()), LISTING_OUT.as_bytes(), "for {plan:?}");
+        }
+    }
+}
+
+/// What 0 gives in each place, however many zeros it has.
+#[test]
+fn zeros_alone() {
+    let row = ["B,0,6", "Z,2,0", "Z,2,0", "Z,2,0"];
+    let server = ["Z,3,0", "B,0,6", "Z,3,0", "Z,3,0"];
+    let arrival = ["B,0,6", "B,0,6", "Z,4,3"];
+    let run = ["B,0,6"];
+    let expected = [&row[..], &server, &arrival, &run].concat();
+    let plain = each_number(|_| "0".to_string());
+    for zeros in ["00", "0000000000"] {
+        let plans = each_number(|_| zeros.to_string());
+        assert_eq!(plans.len(), expected.len());
+        for (i, (_, plan)) in plans.iter().enumerate() {
+            gives(plan, expected[i]);
+            assert_eq!(schedule(plan.as_bytes()), schedule(plain[i].1.as_bytes()), "for {plan:?}");
+        }
+    }
+}
+
+#[test]
+fn no_number() {
+    let texts = [
+        "",
+        "00000000000",
+        "00000000003",
+        "000000000003",
+        "04294967295",
+        "4294967296",
+        "9999999999",
+        "+3",
+        "-3",
+        " 3",
+        "3 ",
+        "+000000003",
+        "-000000003",
+        " 000000003",
+        "000000003 ",
+        "00000 0003",
+        "0,000000003",
+        "0x00000003",
+        "00000003.0",
+    ];
+    for text in texts {
+        for (line, plan) in each_number(|_| text.to_string()) {
+            gives(&plan, &format!("Z,8,{line}"));
+        }
+    }
+}
+
+#[test]
+fn limits_keep_to_the_value() {
+    for (ticks, first) in [("1000000", "B,0,3"), ("0001000000", "B,0,3"), ("1000001", "Z,8,3"), ("0001000001", "Z,8,3")] {
+        after_table(&format!("R,{ticks}\n"), first);
+    }
+    after_table("A,0,1,0000060000\nR,1\n", "B,0,3");
+    after_table("A,0,1,0000060001\nR,1\n", "Z,4,3");
+    gives("T,0,0000060001,1,4\nS,0,1,0,0\nR,1\n", "Z,2,0");
+    gives("T,0,4,1,4\nS,0000000004,0,5,2\nR,1\n", "B,0,3");
+    gives("T,0,4,1,4\nS,0000000005,0,5,2\nR,1\n", "Z,3,0");
+    // Ticks fall or not by their values, however they are written.
+    after_table("A,0000000009,1,1\nA,10,1,1\nA,010,1,1\nR,1\n", "B,0,3");
+    after_table("A,10,1,1\nA,0000000009,1,1\nR,1\n", "Z,9,4");
+    after_table("A,010,1,1\nA,9,1,1\nR,1\n", "Z,9,4");
+    // A zero before the digits does not make them octal.
+    assert!(schedule(format!("{GOOD}R,010\n").as_bytes()).ends_with(b"\nE,10,7,3,0,0\n"));
+}
+
+#[test]
+fn whole_plan_padded() {
+    let listing = "T,0000000003,0000000006,0000000002,0000000006\n\
+                   S,0000000002,0000000000,0000000005,0000000002\n\
+                   A,0000000003,0000000007,0000000004\n\
+                   R,0000000008\n";
+    assert_eq!(padded(LISTING), listing);
+    assert_eq!(schedule(listing.as_bytes()), LISTING_OUT.as_bytes());
+    let full = format!("{GOOD}{}R,200\n", "A,3,4294967295,1\nA,3,7,1\n".repeat(40));
+    let out = String::from_utf8(schedule(padded(&full).as_bytes())).unwrap();
+    assert!(out.contains("\nN,3,4294967295,5\nN,3,7,5\n"));
+    assert_eq!(out, String::from_utf8(schedule(full.as_bytes())).unwrap());
+}
+
+#[test]
+fn whole_refused_plan_padded() {
+    for (plan, expected) in [
+        ("S,1,0,5,2\nR,1\n", "Z,1,0\n"),
+        ("T,0,4,5,4\nS,1,0,5,2\nR,1\n", "Z,2,0\n"),
+        ("T,0,4,1,4\nS,1,2,5,2\nR,1\n", "Z,3,0\n"),
+        ("T,0,4,1,4\nS,1,0,5,2\nA,0,1,0\nR,1\n", "Z,4,3\n"),
+        ("T,0,4,1,4\nS,1,0,5,2\nR,1000001\n", "Z,8,3\n"),
+        ("T,0,4,1,4\nS,1,0,5\nR,1\n", "Z,8,2\n"),
+        ("T,0,4,1,4\nS,1,0,5,2\nA,1,1,1\nA,0,1,1\nR,1\n", "Z,9,4\n"),
+        ("T,0,4,1,4\nS,1,0,5,2\n", "Z,9,3\n"),
+    ] {
+        assert_eq!(schedule(plan.as_bytes()), expected.as_bytes());
+        assert_eq!(schedule(padded(plan).as_bytes()), expected.as_bytes());
+    }
 }
 
 #[test]
@@ -177,4 +308,13 @@ fn length() {
     gives(&plan, "Z,7,0");
     gives(&"x".repeat(65_537), "Z,7,0");
     gives(&"x".repeat(65_536), "Z,8,1");
+}
+
+#[test]
+fn zeros_count_in_the_length() {
+    let lines = "A,0000000009,0000000000,0000000001\n".repeat(1_871);
+    let plan = format!("{GOOD}{lines}A,0000000009,0000000000,01\nR,1\n");
+    assert_eq!(plan.len(), 65_536);
+    gives(&plan, "B,0,3");
+    gives(&plan.replace("R,1\n", "R,01\n"), "Z,7,0");
 }

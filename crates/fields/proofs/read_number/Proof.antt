@@ -1,6 +1,6 @@
 -- `fields::read_number` meets its contract. The invariant: the digits left, read on from v, give the number that the whole text is.
 use Rattle.fields.specs.Text.{maxNumber, readNumber}
-use Rattle.fields.proofs.Laws.{none, too-long, leads, starts, rest, too-large, below-digit, above-digit, digit-on, ends, zero-alone}
+use Rattle.fields.proofs.Laws.{none, too-long, starts, rest, too-large, below-digit, above-digit, digit-on, ends}
 use lib.ListN.{length, drop}
 use Prim.Native.Nat.{_≤_, _-_}
 use mathlib.Core.Path.{_≡_, refl, sym, _∙_}
@@ -21,30 +21,21 @@ returns c = none _ (c .if1 .taken)
 returns-2 : tie.Need-returns-2 Inv-loop μ-loop
 returns-2 c = too-long _ (c .if2 .taken)
 
-shared-slice-read-if3 : tie.Need-shared-slice-read-if3 Inv-loop μ-loop
-shared-slice-read-if3 c = search needs
-
-returns-3 : tie.Need-returns-3 Inv-loop μ-loop
-returns-3 c = zero-alone _ (c .if4 .taken) (c .before .if3 .taken)
-
-returns-4 : tie.Need-returns-4 Inv-loop μ-loop
-returns-4 c = leads _ (c .if4 .left) (c .before .before .before .before .if1 .left) (c .before .before .before .if2 .left) (c .before .if3 .taken)
-
 loop-holds : tie.Need-loop-holds Inv-loop μ-loop
-loop-holds c = (omega arith, refl, omega arith, starts _ (c .before .before .before .if1 .left) (c .before .before .if2 .left) (c .if3 .left))
+loop-holds c = (omega arith, refl, omega arith, starts _ (c .before .if1 .left) (c .if2 .left))
 
 shared-slice-read-b : tie.Need-shared-slice-read-b Inv-loop μ-loop
 shared-slice-read-b c = search needs
 
-returns-5 : tie.Need-returns-5 Inv-loop μ-loop
-returns-5 c =
+returns-3 : tie.Need-returns-3 Inv-loop μ-loop
+returns-3 c =
     let a = c .before .before .before .loop in
-    sym (a .inv .3 ∙ below-digit _ _ _ _ (a .inv .1) (c .before .before .loop-test .taken) (c .if5 .taken))
+    sym (a .inv .3 ∙ below-digit _ _ _ _ (a .inv .1) (c .before .before .loop-test .taken) (c .if3 .taken))
 
-returns-6 : tie.Need-returns-6 Inv-loop μ-loop
-returns-6 c =
+returns-4 : tie.Need-returns-4 Inv-loop μ-loop
+returns-4 c =
     let a = c .before .before .before .before .loop in
-    sym (a .inv .3 ∙ above-digit _ _ _ _ (a .inv .1) (c .before .before .before .loop-test .taken) (c .if6 .taken))
+    sym (a .inv .3 ∙ above-digit _ _ _ _ (a .inv .1) (c .before .before .before .loop-test .taken) (c .if4 .taken))
 
 wide-requires : tie.Need-wide-requires Inv-loop μ-loop
 wide-requires c κs = search needs
@@ -58,10 +49,10 @@ sub-v c = search needs
 add-v : tie.Need-add-v Inv-loop μ-loop
 add-v c = search needs
 
-returns-7 : tie.Need-returns-7 Inv-loop μ-loop
-returns-7 c =
+returns-5 : tie.Need-returns-5 Inv-loop μ-loop
+returns-5 c =
     let a = c .before .before .before .before .before .before .loop in
-    sym (a .inv .3 ∙ digit-on _ _ _ _ (a .inv .1) (c .before .before .before .before .before .loop-test .taken) _ (c .before .wide .ensures) (c .before .before .before .if5 .left) (c .before .before .if6 .left) ∙ too-large _ _ (c .if7 .taken))
+    sym (a .inv .3 ∙ digit-on _ _ _ _ (a .inv .1) (c .before .before .before .before .before .loop-test .taken) _ (c .before .wide .ensures) (c .before .before .before .if3 .left) (c .before .before .if4 .left) ∙ too-large _ _ (c .if5 .taken))
 
 add-i : tie.Need-add-i Inv-loop μ-loop
 add-i c = search needs
@@ -75,14 +66,14 @@ loop-again c =
       omega arith,
       omega arith,
       omega arith,
-      a .inv .3 ∙ digit-on _ _ _ _ (a .inv .1) (c .before .before .before .before .before .loop-test .taken) _ (c .before .wide .ensures) (c .before .before .before .if5 .left) (c .before .before .if6 .left),
+      a .inv .3 ∙ digit-on _ _ _ _ (a .inv .1) (c .before .before .before .before .before .loop-test .taken) _ (c .before .wide .ensures) (c .before .before .before .if3 .left) (c .before .before .if4 .left),
     )
 
-cast-t16 : tie.Need-cast-t16 Inv-loop μ-loop
-cast-t16 c = search needs
+cast-t13 : tie.Need-cast-t13 Inv-loop μ-loop
+cast-t13 c = search needs
 
-returns-8 : tie.Need-returns-8 Inv-loop μ-loop
-returns-8 c = sym (c .before .loop .inv .3 ∙ ends _ _ _ _ (c .before .loop .inv .1) (c .loop-test .left) (c .before .loop .inv .2))
+returns-6 : tie.Need-returns-6 Inv-loop μ-loop
+returns-6 c = sym (c .before .loop .inv .3 ∙ ends _ _ _ _ (c .before .loop .inv .1) (c .loop-test .left) (c .before .loop .inv .2))
 
 pub read-number-spec : {M : Type 1} → statement M
 read-number-spec =
@@ -92,20 +83,17 @@ read-number-spec =
     μ-loop
     returns
     returns-2
-    shared-slice-read-if3
-    returns-3
-    returns-4
     loop-holds
     shared-slice-read-b
-    returns-5
-    returns-6
+    returns-3
+    returns-4
     wide-requires
     mul-v
     sub-v
     add-v
-    returns-7
+    returns-5
     add-i
     loop-less
     loop-again
-    cast-t16
-    returns-8)
+    cast-t13
+    returns-6)

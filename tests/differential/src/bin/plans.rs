@@ -1,4 +1,5 @@
-//! `plans PROGRAM [COUNT] [SEED]`: the program's output for random plans, against the second implementation, byte for byte.
+//! `plans PROGRAM [COUNT] [SEED]`: the program's output for random plans, against the second implementation, byte for byte. And against
+//! itself: zeros before a plan's numbers, up to ten digits in each, change nothing of what is printed (document 02, 4/13).
 //! A plan that tells them apart is made small and written to target/differential/.
 
 use std::collections::BTreeSet;
@@ -8,10 +9,11 @@ use std::sync::atomic::{AtomicBool, Ordering};
 use std::thread;
 use std::time::Instant;
 
+use differential::padding::{self, padded_form, plain};
 use differential::plan::plan;
 use differential::program::{all_reached, count_and_seed, write, Seen};
 use differential::random::Random;
-use differential::returns::{shown, SHOWN};
+use differential::returns;
 use differential::shrink::shrink;
 use second::plan::{read, Plan};
 use second::table::RETURNING;
@@ -19,7 +21,13 @@ use second::State;
 
 const KINDS: [&str; 5] = ["kind 0", "kind 1", "kind 2", "kind 3", "kind 4"];
 
-/// From so many plans on, each kind and all that a tick of kind 4 can show is to be reached.
+/// A plan without zeros before its numbers and the same plan with some, both given to the program.
+const PAIRS: [&str; 2] = ["padded pair accepted", "padded pair refused"];
+
+/// One plan in so many makes a pair, if it can.
+const PAIRED: u64 = 3;
+
+/// From so many plans on, each kind, all that a tick of kind 4 and padded numbers can show, and such pairs are to be reached.
 const ENOUGH: u64 = 5_000;
 
 fn main() {
@@ -35,12 +43,25 @@ fn main() {
         }
         Ok(seen) => {
             println!("plans: all alike in {:.1} s", start.elapsed().as_secs_f64());
-            let to_reach: Vec<&str> = KINDS.into_iter().chain(SHOWN).collect();
+            let to_reach: Vec<&str> = KINDS.into_iter().chain(returns::SHOWN).chain(padding::SHOWN).chain(PAIRS).collect();
             if !all_reached("plans", &seen, &to_reach, count, ENOUGH) {
                 exit(1);
             }
         }
     }
+}
+
+/// A plan, and its padded form if the two are a pair.
+struct Case {
+    plan: Vec<u8>,
+    padded: Option<Vec<u8>>,
+}
+
+fn case(seed: u64, index: u64) -> Case {
+    let random = &mut Random::new(seed, index);
+    let plan = plan(random);
+    let padded = if random.once_in(PAIRED) { padded_form(random, &plan) } else { None };
+    Case { plan, padded }
 }
 
 /// The first plan that differs, if any, or what was seen. The plans are shared out between the processor's cores.
@@ -53,14 +74,16 @@ fn compare(program: &str, count: u64, seed: u64) -> Result<Seen, u64> {
             if stop.load(Ordering::Relaxed) {
                 break;
             }
-            let plan = plan(&mut Random::new(seed, index));
-            let expected = second::print::schedule(&plan);
-            if run(program, &plan) != Some(&expected[..]).map(<[u8]>::to_vec) {
+            let case = case(seed, index);
+            let expected = second::print::schedule(&case.plan);
+            let alike = |text: &Vec<u8>| run(program, text).as_ref() == Some(&expected);
+            if !alike(&case.plan) || !case.padded.iter().all(alike) {
                 stop.store(true, Ordering::Relaxed);
                 return Err(index);
             }
             note(&mut seen, &expected);
-            note_kind(&mut seen, &plan);
+            note_kind(&mut seen, &case.plan);
+            note_padding(&mut seen, &case);
         }
         Ok(seen)
     };
@@ -104,9 +127,17 @@ fn note_kind(seen: &mut Seen, text: &[u8]) {
     let kind = plan.table.server.kind;
     let mut met = BTreeSet::from([KINDS[kind as usize]]);
     if kind == RETURNING {
-        replay(&plan, |before| met.extend(shown(before)));
+        replay(&plan, |before| met.extend(returns::shown(before)));
     }
     for what in met {
+        *seen.entry(what.to_string()).or_default() += 1;
+    }
+}
+
+/// Counts what a plan shows of padding, and the pairs.
+fn note_padding(seen: &mut Seen, case: &Case) {
+    let pair = case.padded.as_ref().map(|padded| PAIRS[read(padded).is_err() as usize]);
+    for what in padding::shown(&case.plan).into_iter().chain(pair) {
         *seen.entry(what.to_string()).or_default() += 1;
     }
 }
@@ -134,16 +165,33 @@ fn run(program: &str, plan: &[u8]) -> Option<Vec<u8>> {
     output.status.success().then_some(output.stdout)
 }
 
+/// Tells of the plan, if it differs from the second implementation; else of its padded form, which differs from the plan.
 fn report(program: &str, seed: u64, index: u64) {
-    let differs = |plan: &[u8]| run(program, plan) != Some(second::print::schedule(plan));
-    let small = shrink(&plan(&mut Random::new(seed, index)), differs);
+    let Case { plan, padded } = case(seed, index);
+    let by_second = |plan: &[u8]| Some(second::print::schedule(plan));
+    let by_program = |padded: &[u8]| run(program, &plain(padded));
     let name = format!("plan-{seed}-{index}");
-    let (expected, printed) = (second::print::schedule(&small), run(program, &small));
+    match padded {
+        Some(padded) if run(program, &plan) == by_second(&plan) => {
+            println!("plans: plan {index} of seed {seed} differs with padded numbers from what the program prints without the zeros");
+            report_small(program, &name, &padded, by_program);
+        }
+        _ => {
+            println!("plans: plan {index} of seed {seed} differs from what second prints");
+            report_small(program, &name, &plan, by_second);
+        }
+    }
+}
+
+fn report_small(program: &str, name: &str, plan: &[u8], wanted: impl Fn(&[u8]) -> Option<Vec<u8>>) {
+    let small = shrink(plan, |plan| run(program, plan) != wanted(plan));
+    let or_failed = |printed: Option<Vec<u8>>| printed.unwrap_or(b"the program failed\n".to_vec());
+    let (expected, printed) = (or_failed(wanted(&small)), or_failed(run(program, &small)));
     let path = write(&format!("{name}.plan"), &small);
     write(&format!("{name}.expected"), &expected);
-    write(&format!("{name}.printed"), printed.as_deref().unwrap_or(b"the program failed\n"));
-    println!("plans: plan {index} of seed {seed} differs; made small in {path}, with .expected and .printed");
-    show(&small, &expected, printed.as_deref().unwrap_or(b""));
+    write(&format!("{name}.printed"), &printed);
+    println!("plans: made small in {path}, with .expected and .printed");
+    show(&small, &expected, &printed);
 }
 
 /// A small plan and the first line that differs, on the screen.
@@ -153,5 +201,5 @@ fn show(plan: &[u8], expected: &[u8], printed: &[u8]) {
     if plan.len() < 400 {
         print!("{}", String::from_utf8_lossy(plan));
     }
-    println!("line {}: second prints {:?}, the program {:?}", first + 1, line(expected, first), line(printed, first));
+    println!("line {}: expected {:?}, the program prints {:?}", first + 1, line(expected, first), line(printed, first));
 }

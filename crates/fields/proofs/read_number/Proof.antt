@@ -19,10 +19,10 @@ returns : tie.Need-returns Inv-loop μ-loop
 returns c = none _ (c .if1 .taken)
 
 returns-2 : tie.Need-returns-2 Inv-loop μ-loop
-returns-2 c = too-long _ (c .if2 .taken)
+returns-2 c = too-long _ (omega (arith, c .if2 .taken))
 
 loop-holds : tie.Need-loop-holds Inv-loop μ-loop
-loop-holds c = (omega arith, refl, omega arith, starts _ (c .before .if1 .left) (c .if2 .left))
+loop-holds c = (omega arith, refl, omega arith, starts _ (c .before .if1 .left) (omega (arith, c .if2 .left)))
 
 shared-slice-read-b : tie.Need-shared-slice-read-b Inv-loop μ-loop
 shared-slice-read-b c = search needs
@@ -52,7 +52,7 @@ add-v c = search needs
 returns-5 : tie.Need-returns-5 Inv-loop μ-loop
 returns-5 c =
     let a = c .before .before .before .before .before .before .loop in
-    sym (a .inv .3 ∙ digit-on _ _ _ _ (a .inv .1) (c .before .before .before .before .before .loop-test .taken) _ (c .before .wide .ensures) (c .before .before .before .if3 .left) (c .before .before .if4 .left) ∙ too-large _ _ (c .if5 .taken))
+    sym (a .inv .3 ∙ digit-on _ _ _ _ (a .inv .1) (c .before .before .before .before .before .loop-test .taken) _ (c .before .wide .ensures) (c .before .before .before .if3 .left) (c .before .before .if4 .left) ∙ too-large _ _ (omega (arith, c .if5 .taken)))
 
 add-i : tie.Need-add-i Inv-loop μ-loop
 add-i c = search needs

@@ -5,7 +5,6 @@ use mathlib.Core.Bool.{Bool, true, false, cond}
 use mathlib.Core.List.{List, [], _∷_, _++_}
 use native.Mathlib.Omega.{arith}
 use borrow.Author.Tests.{le-leb, eq-eqb, ne-eqb, leb-true}
-use lib.ListN.{length}
 use lib.Dec.{leb, eqb}
 use Rattle.lists.specs.Tests.{every, facts-every, and-split, never}
 use Rattle.server.specs.declared.Server.{Server}

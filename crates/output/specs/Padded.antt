@@ -3,17 +3,12 @@ use Prim.Native.Nat.{ℕ, _≤_}
 use mathlib.Core.Path.{_≡_, refl, ap, _∙_}
 use mathlib.Core.List.{List}
 use lib.ListN.{length}
-use Rattle.fields.specs.declared.Arrival.{Arrival}
 use Rattle.fields.specs.Padded.{padded}
 use Rattle.plan.specs.declared.Answer.{Answer}
 use Rattle.plan.specs.declared.Plan.{Plan}
 use Rattle.plan.specs.Plan.{maxBytes, planOf, arrivalsFrom}
 use Rattle.plan.specs.Padded.{plan-padded, arrivals-padded}
-use Rattle.table.specs.State.{setUpCall}
-use Rattle.bounds.specs.Admission.{admissionCall}
-use Rattle.heading.specs.Heading as heading
-use Rattle.output.specs.Totals.{noTotals}
-use Rattle.output.specs.Output.{ticksText, textBy, scheduleText}
+use Rattle.output.specs.Output.{textBy, scheduleText}
 
 -- of two texts with the same A lines
 same-text : (a : Answer) (p : Plan) (l m : List ℕ) → arrivalsFrom m 0 ≡ arrivalsFrom l 0 → textBy a p m ≡ textBy a p l

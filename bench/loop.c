@@ -153,7 +153,7 @@ static struct pilqandur_entry tick(struct pilqandur_state *s)
     } else if (busy) {
         e = (struct pilqandur_entry){1, first, e.drops};
         s->progress.left[first]--;
-    } else if (v->kind == PILQANDUR_BACKGROUND && waited) {
+    } else if (waited) { /* an idle tick, under any kind: no service */
         e = (struct pilqandur_entry){2, s->queue.requests[0].id, e.drops};
         serve(&s->queue);
     }

@@ -1,8 +1,9 @@
 /* Pilqandur: a tick scheduler and its admission bounds, as static library target/staticlib/libcapi.a (`rt staticlib capi`).
  *
- * Every function of the library is proved to give, for every value of its arguments, what document 01's rules give: the
- * number of the answer, the next state, the bounds, the entries of a run. (docs/MANUAL.md: the rules in plain words, and
- * what to do about each number; crates/capi: the contracts; crates/rules/specs: the rules.)
+ * Every function of the library is proved to give, for every value of its arguments, what document 01's rules give, with what
+ * document 02's requests have changed of them: the number of the answer, the next state, the bounds, the entries of a run.
+ * (docs/MANUAL.md: the rules in plain words, and what to do about each number; crates/capi: the contracts; crates/rules/specs:
+ * the rules.)
  *
  * What the caller has to see to:
  *
@@ -27,6 +28,11 @@
  * are still states, and are run as such: another id or work, another clock, even another table, which need not be the admitted
  * one. Keep a checksum beside a stored state (examples/c/saved.c does).
  *
+ * A tick goes to the first open task above the server; else to the first waiting request, by the budget; else to the first open
+ * task below; else, whatever the kind and the budget, to the first waiting request, which then takes no budget, is no service
+ * and leaves the server's state as an idle tick would. So no tick is idle while a request waits. An answer and an entry name the
+ * request in both cases alike.
+ *
  * A run does not report what finished: make ticks one by one where the responses are wanted.
  *
  * No function keeps anything between calls, allocates or does input or output: the archive has no data of its own, and wants
@@ -44,7 +50,7 @@ extern "C" {
 #endif
 
 /* The number of this header. It rises with every change of a struct, a number or a meaning. */
-#define PILQANDUR_VERSION 2u
+#define PILQANDUR_VERSION 3u
 
 /* The limits. Times are in ticks of 10 ms. */
 #define PILQANDUR_MAX_TASKS 16
@@ -61,8 +67,8 @@ extern "C" {
 #define PILQANDUR_STACK_SET_UP 656
 #define PILQANDUR_STACK_ADMIT 1360
 #define PILQANDUR_STACK_REQUEST 5648
-#define PILQANDUR_STACK_TICK 6736
-#define PILQANDUR_STACK_RUN 6240
+#define PILQANDUR_STACK_TICK 6752
+#define PILQANDUR_STACK_RUN 6256
 
 /* Kinds of a server. */
 #define PILQANDUR_BACKGROUND 0u

@@ -3,7 +3,7 @@
 #![allow(dead_code)] // a caller need not use all of it
 
 /// The number of the header that these declarations follow: `version()` has to be it.
-pub const VERSION: u32 = 2;
+pub const VERSION: u32 = 3;
 
 /// The limits. Times are in ticks of 10 ms.
 pub const MAX_TASKS: u32 = 16;

@@ -1,5 +1,5 @@
 #!/usr/bin/env python3
-"""The second computation of the program `calls`: the same cases, worked out from the text of document 01 and of 02's request 3/13.
+"""The second computation of the program `calls`: the same cases, worked out from the text of document 01 and of 02's 3/13 and 5/13.
 
 Nothing here is taken from the product's definitions or code but the order of a state's fields, in which the digest reads them,
 the letters on a line, and three points that document 01 leaves free: a refused set-up hands back the table's fresh state (of an
@@ -248,7 +248,7 @@ def tick(s):
         who = "budget"
     elif row is not None:
         who = "row"
-    elif kind == 0 and waiting:
+    elif waiting:                                         # 5/13: no service, whatever the kind
         who = "spare"
     else:
         who = "idle"

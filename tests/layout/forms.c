@@ -125,12 +125,12 @@ static void table_numbers(void)
     expect(set_up_number(t) == PILQANDUR_BAD_SERVER, "RETURNING is the last kind");
 }
 
-/* document 01's marked cases: the responses of one request under each kind of server. Kind 4 serves it in the same ticks as kind 3, and
- * alone holds what it served. */
+/* document 01's marked cases, with document 02's figures (5/13): the responses of one request under each kind of server. Kind 4 serves it in
+ * the same ticks as kind 3, and alone holds what it served: 4 and 8, with an idle tick that was given between them. */
 static void kind_responses(void)
 {
     const uint32_t kinds[5] = {PILQANDUR_BACKGROUND, PILQANDUR_POLLING, PILQANDUR_DEFERRABLE, PILQANDUR_SPORADIC, PILQANDUR_RETURNING};
-    const uint32_t responses[5] = {6, 9, 4, 7, 7};
+    const uint32_t responses[5] = {6, 6, 4, 6, 6};
     for (int i = 0; i < 5; i++) {
         struct pilqandur_table t = {.tasks = {{3, 6, 2, 6}}, .n = 1, .server = {kinds[i], 0, 5, 2}};
         if (kinds[i] == PILQANDUR_BACKGROUND)
@@ -145,12 +145,19 @@ static void kind_responses(void)
             expect(!ticked.finished || ticked.kind == PILQANDUR_REQUEST, "REQUEST");
         }
         expect(ticked.response == responses[i], "a kind of server");
-        expect(s.returns.n == (kinds[i] == PILQANDUR_RETURNING ? 1u : 0u), "a kind of server: what it holds");
+        expect(s.returns.n == (kinds[i] == PILQANDUR_RETURNING ? 2u : 0u), "a kind of server: what it holds");
     }
 }
 
-/* Kind 4's stretches at their limit: no tick is served that would open one more, and a state with one more is unfit. The other kinds do not
- * look at them. */
+/* Whether a request has the next tick, and takes 1 of the budget or 0; no tick comes back in it. */
+static int has_tick(struct pilqandur_state s, uint32_t by_budget)
+{
+    const struct pilqandur_tick_result r = pilqandur_tick(s);
+    return r.number == PILQANDUR_DONE && r.kind == PILQANDUR_REQUEST && r.state.progress.server.budget == s.progress.server.budget - by_budget;
+}
+
+/* Kind 4's stretches at their limit: no tick is served that would open one more (an idle one is given), and a state with one more is unfit.
+ * The other kinds do not look at them. */
 static void stretch_numbers(void)
 {
     struct pilqandur_table t = {.tasks = {{0, 200, 1, 200}}, .n = 1, .server = {PILQANDUR_RETURNING, 0, 200, PILQANDUR_MAX_STRETCHES + 1}};
@@ -161,12 +168,12 @@ static void stretch_numbers(void)
     s.progress.server.budget = 1;
     s.progress.clock = 2 * PILQANDUR_MAX_STRETCHES - 1;
     expect(pilqandur_request_at(&s, 1, 1) == PILQANDUR_DONE, "MAX_STRETCHES");
-    expect(pilqandur_tick(s).kind == PILQANDUR_REQUEST, "a tick that makes the last stretch longer");
+    expect(has_tick(s, 1), "a tick that makes the last stretch longer");
     s.progress.clock++;
-    expect(pilqandur_tick(s).number == PILQANDUR_DONE && pilqandur_tick(s).kind == PILQANDUR_IDLE, "a tick that would open one stretch more");
+    expect(has_tick(s, 0), "a tick that would open one stretch more");
     s.returns.n--;
     s.progress.server.budget++;
-    expect(pilqandur_tick(s).kind == PILQANDUR_REQUEST, "a tick that opens the last stretch");
+    expect(has_tick(s, 1), "a tick that opens the last stretch");
     s.returns.n += 2;
     s.progress.server.budget--;
     expect(pilqandur_tick(s).number == PILQANDUR_UNFIT_STATE, "MAX_STRETCHES, UNFIT_STATE");

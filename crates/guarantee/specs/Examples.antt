@@ -8,13 +8,13 @@ use mathlib.Core.List.{List, [], _∷_, map}
 use lib.Dec.{ltb}
 use lib.ListN.{length, replicate}
 use Rattle.lists.specs.Lists.{overlay, all}
-use Rattle.lists.specs.Stretch.{stretch, howMany}
+use Rattle.lists.specs.Stretch.{stretch, howMany, tally}
 use Rattle.table.specs.declared.Table.{Table}
 use Rattle.bounds.specs.Admission.{admissionCall}
 use Rattle.rules.specs.declared.Entry.{Entry}
 use Rattle.rules.specs.Play.{task, server, table}
 use Rattle.guarantee.specs.Calls.{Call, request, tick, run, RanTick, ticks, clockAfter, hasTask, hasRequest}
-use Rattle.guarantee.specs.Guarantee.{boundAt, Guarantee}
+use Rattle.guarantee.specs.Guarantee.{boundAt, byBudgetIn, Guarantee}
 use Rattle.guarantee.specs.Unnoticed.{acceptedTicks, runsIn, droppedIn, Unnoticed}
 use Rattle.guarantee.specs.Kept.{guarantee, unnoticed}
 
@@ -45,12 +45,12 @@ unfolding overlay
 admitted-each = refl
 
 loaded-each : map loaded (0 ∷ 1 ∷ 2 ∷ 3 ∷ 4 ∷ []) ≡
-    (2 ∷ 0 ∷ 15 ∷ 15 ∷ 11 ∷ 4 ∷ []) ∷ (4 ∷ 2 ∷ 15 ∷ 15 ∷ 6 ∷ 4 ∷ []) ∷ (6 ∷ 2 ∷ 15 ∷ 15 ∷ 6 ∷ 4 ∷ []) ∷ (4 ∷ 2 ∷ 15 ∷ 15 ∷ 8 ∷ 4 ∷ [])
-    ∷ (4 ∷ 2 ∷ 15 ∷ 15 ∷ 6 ∷ 4 ∷ []) ∷ []
+    (2 ∷ 0 ∷ 15 ∷ 15 ∷ 11 ∷ 4 ∷ []) ∷ (4 ∷ 2 ∷ 15 ∷ 15 ∷ 11 ∷ 4 ∷ []) ∷ (6 ∷ 2 ∷ 15 ∷ 15 ∷ 11 ∷ 4 ∷ []) ∷ (4 ∷ 2 ∷ 15 ∷ 15 ∷ 11 ∷ 4 ∷ [])
+    ∷ (4 ∷ 2 ∷ 15 ∷ 15 ∷ 11 ∷ 4 ∷ []) ∷ []
 unfolding overlay
 loaded-each = refl
 
--- the queue is never empty from tick 5 to tick 9, and two of these ticks serve it
+-- the queue is never empty from tick 5 to tick 9; a request has two of these ticks by the budget and, with those that would be idle, four in all (5/13)
 abbrev waiting : RanTick → Bool
 waiting x = ltb 0 (x .before) && ltb 0 (x .after)
 
@@ -58,9 +58,13 @@ backlogged : map (λ (k : ℕ). all waiting (stretch 5 5 (ticks (marked k) load)
 unfolding overlay
 backlogged = refl
 
-served : map (λ (k : ℕ). howMany hasRequest (stretch 5 5 (ticks (marked k) load))) (1 ∷ 2 ∷ []) ≡ 2 ∷ 2 ∷ []
+served : map (λ (k : ℕ). tally (byBudgetIn (marked k) load) 5 5) (1 ∷ 2 ∷ []) ≡ 2 ∷ 2 ∷ []
 unfolding overlay
 served = refl
+
+given : map (λ (k : ℕ). howMany hasRequest (stretch 5 5 (ticks (marked k) load))) (1 ∷ 2 ∷ []) ≡ 4 ∷ 4 ∷ []
+unfolding overlay
+given = refl
 
 -- so the theorem applies, to these calls and to every other list
 kept-each : (calls : List Call) → Guarantee (marked 0) calls × Guarantee (marked 1) calls × Guarantee (marked 2) calls × Guarantee (marked 3) calls × Guarantee (marked 4) calls

@@ -2,7 +2,7 @@
 use Prim.Native.Nat.{ℕ, zero, suc, _+_, _≤_, _<_}
 use native.Mathlib.Omega.{arith}
 use mathlib.Core.Path.{_≡_, refl, sym, ap, _∙_}
-use mathlib.Core.Bool.{Bool, true, false, cond}
+use mathlib.Core.Bool.{Bool, true, false, cond, _&&_}
 use mathlib.Core.List.{List, [], _∷_, map}
 use lib.ListN.{length, take, drop, getD}
 use Rattle.lists.specs.Lists.{count, zipWith}
@@ -51,6 +51,17 @@ tally-zip f a b none (x ∷ xs) [] = sym (tally-none (λ i. f (getD (x ∷ xs) i
 tally-zip f a b none (x ∷ xs) (y ∷ ys) =
     count-cons (f x y) (zipWith f xs ys) ∙ ap (λ (k : ℕ). cond (f x y) 1 0 + k)
     (tally-zip f a b none xs ys ∙ tally-shift (λ i. f (getD (x ∷ xs) i a) (getD (y ∷ ys) i b)) 0 (length xs))
+
+-- what passes two tests passes the first
+pub tally-both : (f g : ℕ → Bool) (r n : ℕ) → tally (λ u. f u && g u) r n ≤ tally f r n
+tally-both f g r zero = omega arith
+tally-both f g r (suc n) = go (f r) (g r) (tally-both f g (suc r) n)
+  where
+    go : (a b : Bool) → tally (λ u. f u && g u) (suc r) n ≤ tally f (suc r) n →
+        cond (a && b) 1 0 + tally (λ u. f u && g u) (suc r) n ≤ cond a 1 0 + tally f (suc r) n
+    go true true h = omega (arith, h)
+    go true false h = omega (arith, h)
+    go false b h = omega (arith, h)
 
 -- two tests that agree on the stretch
 pub tally-same : (f g : ℕ → Bool) (r n : ℕ) → ((u : ℕ) → r ≤ u → u < r + n → f u ≡ g u) → tally f r n ≡ tally g r n

@@ -1,6 +1,7 @@
 -- Cases of the calls: each refusal in its order and at its limit, what a refused call leaves alone, and what a run writes.
 use Prim.Native.Nat.{ℕ, zero, suc, _+_, _-_}
 use mathlib.Core.Path.{_≡_, refl}
+use mathlib.Core.Bool.{true, false}
 use mathlib.Core.List.{List, [], _∷_, map}
 use lib.ListN.{replicate}
 use Rattle.lists.specs.Lists.{overlay}
@@ -61,6 +62,28 @@ full c = record {
   returns = record { stretches = apart maxHeld 0; n = maxHeld };
 }
 
+-- the same with the task open
+abbrev crowded : ℕ → State
+crowded c = record {
+  table = full c .table;
+  progress = record { left = 2 ∷ replicate 15 0; server = full c .progress .server; clock = c };
+  queue = full c .queue;
+  returns = full c .returns;
+}
+
+-- sporadic at clock 5, its budget gone without service since tr, and a request waiting
+abbrev idly : State
+idly = record {
+  table = table (task 9 9 2 6 ∷ []) (server 3 0 5 2);
+  progress = record {
+    left = base .progress .left;
+    server = record { budget = 0; sporadic = record { tr = 3; begin = 2; nr = 0; served = false; late = false; above = true; busy = true } };
+    clock = 5;
+  };
+  queue = waiting 1 .queue;
+  returns = freshReturns;
+}
+
 abbrev refusalOf : TickAnswer → ℕ
 refusalOf (TickAnswer.Ran o d f) = 0
 refusalOf (TickAnswer.Refused r) = number r
@@ -103,8 +126,17 @@ pub record CallCases : Type 0 where
   pub odd-returns : map (λ k. refusalOf (tickCall (oddly k) .answer)) (1 ∷ 2 ∷ 3 ∷ 4 ∷ []) ≡ 0 ∷ 0 ∷ 0 ∷ 11 ∷ []
   pub odd-stay : tickCall (oddly 2) .state .returns ≡ oddly 2 .returns
   pub odd-asked : requestCall (oddly 2) 7 4 .state .returns ≡ oddly 2 .returns
-  -- 3/13: 32 held; 63 goes on the last, 64 and 79 would open another, and at 80 tick 0 has come back before the choice
-  pub full-returns : map (λ c. codeOf (tickCall (full c) .answer)) (63 ∷ 64 ∷ 79 ∷ 80 ∷ []) ≡ 9 ∷ 0 ∷ 0 ∷ 9 ∷ []
+  -- 3/13: 32 held; 63 goes on the last, 64 and 79 would open another, and at 80 tick 0 has come back before the choice. 5/13: the request has
+  -- 64 and 79 all the same, with no task open, where the budget stays and nothing is held
+  pub full-returns : map (λ c. codeOf (tickCall (full c) .answer)) (63 ∷ 64 ∷ 79 ∷ 80 ∷ []) ≡ 9 ∷ 9 ∷ 9 ∷ 9 ∷ []
+  pub full-budgets : map (λ c. tickCall (full c) .state .progress .server .budget) (63 ∷ 64 ∷ 79 ∷ 80 ∷ []) ≡ 7 ∷ 8 ∷ 8 ∷ 8 ∷ []
+  pub full-held : tickCall (full 64) .state .returns ≡ full 64 .returns
+  -- and a task below goes before it
+  pub full-busy : map (λ c. codeOf (tickCall (crowded c) .answer)) (64 ∷ 79 ∷ 80 ∷ []) ≡ 1 ∷ 1 ∷ 9 ∷ []
+  -- 5/13: an idle tick sets no sporadic mark: the budget is gone, nothing is served since tr, and only the marks of the last tick are set
+  pub idle-unmarked : tickCall idly .state .progress .server ≡
+      record { budget = 0; sporadic = record { tr = 3; begin = 2; nr = 0; served = false; late = false; above = false; busy = false } }
+  pub idle-serves : codeOf (tickCall idly .answer) ≡ 9
 
 pub call-cases : CallCases
 unfolding overlay
@@ -136,4 +168,9 @@ call-cases = record {
   odd-stay = refl;
   odd-asked = refl;
   full-returns = refl;
+  full-budgets = refl;
+  full-held = refl;
+  full-busy = refl;
+  idle-unmarked = refl;
+  idle-serves = refl;
 }

@@ -1,4 +1,4 @@
--- Document 01's marked cases, by the calls on the structs, as one table.
+-- Document 01's marked cases, by the calls on the structs, as one table. Where request 5/13 overrules a figure, the new one stands here.
 use Prim.Native.Nat.{ℕ}
 use mathlib.Core.Path.{_≡_, refl}
 use mathlib.Core.Bool.{true, false}
@@ -52,15 +52,16 @@ pub record MarkedCases : Type 0 where
   pub listing-ticks : played row (one 2) once 8 ≡
       idle ∷ idle ∷ idle ∷ serving ∷ serving ∷ serving ∷ TickAnswer.Ran (Occupant.Request 7) 0 (Finish.Finished 7 4)
       ∷ TickAnswer.Ran (Occupant.Task 0) 0 Finish.Nothing ∷ []
-  -- "Responses: background 6, polling 9, deferrable 4, sporadic 7 (four cases)."
+  -- "Responses: background 6, .. deferrable 4 .. (four cases)." 5/13: "In 01's marked cases polling now responds in 6 and sporadic in 6" (for 9 and 7)
   pub background-responds : responses (played row (server 0 1 0 0) once 10) ≡ 6 ∷ []
-  pub polling-responds : responses (played row (one 1) once 13) ≡ 9 ∷ []
+  pub polling-responds : responses (played row (one 1) once 9) ≡ 6 ∷ []
   pub deferrable-responds : responses (played row (one 2) once 8) ≡ 4 ∷ []
-  pub sporadic-responds : responses (played row (one 3) once 11) ≡ 7 ∷ []
-  -- 3/13: served at 3, 4 and, when these come back, at 8, 9; work of 5 from tick 1 with P = 4 at 1, 2, 5, 6, 9 (deferrable 1, 2, 4, 5, 8)
-  pub returning-responds : responses (played row (one 4) once 11) ≡ 7 ∷ []
-  pub returning-by-tick : responses (played row (server 4 0 4 2) (at 1 7 5 ∷ []) 11) ≡ 9 ∷ []
-  pub deferrable-by-period : responses (played row (server 2 0 4 2) (at 1 7 5 ∷ []) 11) ≡ 8 ∷ []
+  pub sporadic-responds : responses (played row (one 3) once 9) ≡ 6 ∷ []
+  -- 3/13: served at 3, 4 and, when tick 3 comes back, at 8, with the idle tick 7 of 5/13 between; work of 4 from tick 1 with P = 4 at 1, 2, 5, 6
+  -- (deferrable 1, 2, 4, 5)
+  pub returning-responds : responses (played row (one 4) once 9) ≡ 6 ∷ []
+  pub returning-by-tick : responses (played row (server 4 0 4 2) (at 1 7 4 ∷ []) 8) ≡ 6 ∷ []
+  pub deferrable-by-period : responses (played row (server 2 0 4 2) (at 1 7 4 ∷ []) 8) ≡ 5 ∷ []
   pub returning-bound : bound row (one 4) ≡ 4 ∷ []
   -- "Row bounds: polling 4, deferrable 6, sporadic 4 (three)."
   pub polling-bound : bound row (one 1) ≡ 4 ∷ []
@@ -70,11 +71,11 @@ pub record MarkedCases : Type 0 where
   pub tight-bound : bound tight (one 2) ≡ 0 ∷ []
   pub tight-admitted : admissionCall (table tight (one 2)) .admitted ≡ false
   pub tight-drops : map dropsOf (played tight (one 2) once 9) ≡ 0 ∷ 0 ∷ 0 ∷ 0 ∷ 0 ∷ 0 ∷ 0 ∷ 0 ∷ 1 ∷ []
-  -- "Polling, works of 1 at ticks 5 and 6: the second responds in 5."
-  pub polling-twice : responses (played row (one 1) (at 5 7 1 ∷ at 6 8 1 ∷ []) 12) ≡ 1 ∷ 5 ∷ []
-  -- "P 5 (late) responds in 10, P 6 (te + P = tf) in 18."
+  -- "Polling, works of 1 at ticks 5 and 6": 5/13, "the polling case with works at ticks 5 and 6 now responds in 1" (for 5)
+  pub polling-twice : responses (played row (one 1) (at 5 7 1 ∷ at 6 8 1 ∷ []) 12) ≡ 1 ∷ 1 ∷ []
+  -- "P 5 (late) .., P 6 (te + P = tf)": 5/13, "and the two cases of the row above a sporadic server in 10" (the second for 18)
   pub sporadic-late : responses (played long (server 3 1 5 2) early 19) ≡ 10 ∷ []
-  pub sporadic-meets : responses (played long (server 3 1 6 2) early 19) ≡ 18 ∷ []
+  pub sporadic-meets : responses (played long (server 3 1 6 2) early 19) ≡ 10 ∷ []
 
 pub marked-cases : MarkedCases
 unfolding overlay

@@ -19,7 +19,6 @@ use Rattle.server.specs.Returns.{maxHeld, roomAt, returned, grown, heldOf, writ
 use Rattle.server.specs.Whole.{Whole, whole, replenishWhole, eligibleWhole, consumeWhole, wholeFits, roomFor}
 use Rattle.server.specs.Written.{few-reread, same-reread}
 use Rattle.server.specs.Held.{HoldsFor, Holding, fits-holding, holding-fits, whole-replenish, whole-consume, returned-length, grown-length}
-use Rattle.server.specs.Server.{servesIdle}
 use Rattle.server.specs.declared.Seen.{Seen}
 use Rattle.server.specs.Within.{Within}
 use Rattle.queue.specs.Queue.{waits}
@@ -81,11 +80,11 @@ server-keeps n s x r busy e p a b z w f may = by n p f may
     by (suc (suc (suc (suc (suc j))))) p f may = record { part = plain background tt may .0; reread = same-reread r; few = held-few r z; fits = refl }
 
 -- a tick by the budget is one that the server was eligible for
-served-may : (k : Kind) (above busy waiting may : Bool) (first : ℕ) → byBudget (choose k above busy waiting may first) ≡ true → may ≡ true
-served-may k true busy waiting may first e = never refl e
-served-may k false busy waiting true first e = refl
-served-may k false true waiting false first e = never refl e
-served-may k false false waiting false first e = go (servesIdle k && waiting) e
+served-may : (above busy waiting may : Bool) (first : ℕ) → byBudget (choose above busy waiting may first) ≡ true → may ≡ true
+served-may true busy waiting may first e = never refl e
+served-may false busy waiting true first e = refl
+served-may false true waiting false first e = never refl e
+served-may false false waiting false first e = go waiting e
   where
     go : (d : Bool) → byBudget (cond d Turn.Spare Turn.Nobody) ≡ true → false ≡ true
     go true e = e
@@ -102,7 +101,7 @@ asked-may k t waiting v e = go (roomFor k t (v .returns)) waiting (ltb 0 (v .par
 pub served-eligible : (p : TaskSet) (m : Model) → seenAt p m .serves ≡ true → eligibleWhole (kindAt p) (m .clock) true (serverAt p m) ≡ true
 served-eligible p m e =
     asked-may (kindAt p) (m .clock) (waits (m .queue)) (serverAt p m)
-    (served-may (kindAt p) (aboveAt p m) (busyAt p m) (waits (m .queue)) (mayAt p m) (firstOpen (leftsAt p m)) e)
+    (served-may (aboveAt p m) (busyAt p m) (waits (m .queue)) (mayAt p m) (firstOpen (leftsAt p m)) e)
 
 -- at most 32 stretches are held, whatever else holds of the state
 whole-few : (k : Kind) (s : Server) (x : Whole) (busy : Bool) (e : Seen) → length (x .returns) ≤ maxHeld →

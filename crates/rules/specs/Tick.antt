@@ -10,7 +10,6 @@ use Rattle.lists.specs.Lists.{any, count, zipWith}
 use Rattle.lists.specs.Time.{due}
 use Rattle.server.specs.declared.Seen.{Seen}
 use Rattle.server.specs.Kind.{Kind, kindOf}
-use Rattle.server.specs.Server.{servesIdle}
 use Rattle.server.specs.Whole.{Whole, replenishWhole, eligibleWhole, consumeWhole}
 use Rattle.queue.specs.declared.Request.{Request}
 use Rattle.queue.specs.declared.Finish.{Finish}
@@ -54,21 +53,22 @@ abbrev pub firstOpen : List ℕ → ℕ
 firstOpen [] = 0
 firstOpen (l ∷ ls) = cond (isOpen l) 0 (suc (firstOpen ls))
 
--- "else, for kind 0 only, the head request; else idle"
-abbrev pub idleTurn : Kind → Bool → Turn
-idleTurn k waiting = cond (servesIdle k && waiting) Turn.Spare Turn.Nobody
+-- 5/13: "At the end of step 4, for every kind, a tick that would be idle goes to the head request if there is one."
+abbrev pub idleTurn : Bool → Turn
+idleTurn waiting = cond waiting Turn.Spare Turn.Nobody
 
 -- Step 4: "the first open row above; else the head request if the queue isn't empty and b > 0; else the first open row below; else ..".
 -- `above`: a task above the server is open; `busy`: any task is; `may`: the server is
 -- eligible; `first`: the first open task
-abbrev pub choose : Kind → Bool → Bool → Bool → Bool → ℕ → Turn
-choose k above busy waiting may first =
+abbrev pub choose : Bool → Bool → Bool → Bool → ℕ → Turn
+choose above busy waiting may first =
     cond above (Turn.Task first)
     (cond may Turn.Budget
     (cond busy (Turn.Task first)
-    (idleTurn k waiting)))
+    (idleTurn waiting)))
 
--- a turn by the server's budget
+-- a turn by the server's budget: a served tick. 5/13: an idle tick that a request has "takes no budget, doesn't count as service and sets no
+-- sporadic or kind 4 mark".
 abbrev pub byBudget : Turn → Bool
 byBudget Turn.Nobody = false
 byBudget (Turn.Task i) = false
@@ -127,7 +127,7 @@ mayAt p m = eligibleWhole (kindAt p) (m .clock) (waits (m .queue)) (serverAt p m
 
 -- step 4
 abbrev pub turnAt : TaskSet → Model → Turn
-turnAt p m = choose (kindAt p) (aboveAt p m) (busyAt p m) (waits (m .queue)) (mayAt p m) (firstOpen (leftsAt p m))
+turnAt p m = choose (aboveAt p m) (busyAt p m) (waits (m .queue)) (mayAt p m) (firstOpen (leftsAt p m))
 
 -- what step 5 shows the server
 abbrev pub seenBy : ℕ → List Request → Turn → Bool → Bool → Seen

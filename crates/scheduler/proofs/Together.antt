@@ -14,16 +14,14 @@ use Rattle.lists.specs.Lists.{overlay, take-overlay, overlay-take, zip-length}
 use Rattle.lists.specs.Tests.{never, and-split}
 use Rattle.server.specs.declared.ServerState.{ServerState}
 use Rattle.server.specs.declared.Seen.{Seen}
-use Rattle.server.specs.Kind.{Kind, background, polling, deferrable, sporadic, returning, kindOf}
+use Rattle.server.specs.Kind.{kindOf}
 use Rattle.server.specs.declared.Returns.{Returns}
-use Rattle.server.specs.declared.Server.{Server}
-use Rattle.server.specs.Server.{servesIdle}
 use Rattle.server.specs.Returns.{maxHeld}
 use Rattle.server.specs.Whole.{roomFor}
-use Rattle.server.specs.Advanced.{delayBy, edgeFor, replenishedBy, advanced, moves}
+use Rattle.server.specs.Advanced.{delayBy, replenishedBy, advanced, moves}
 use Rattle.server.specs.Written.{Delays, delays, edge-room, replenished-is, advance-is, unmoved}
 use Rattle.server.specs.declared.Edge.{Edge}
-use Rattle.server.specs.Consumed.{kept, consumed}
+use Rattle.server.specs.Consumed.{consumed}
 use Rattle.server.specs.Within.{Timed, part-timed, consumed-is-consume}
 use Rattle.queue.specs.declared.Request.{Request}
 use Rattle.queue.specs.declared.Queue.{Queue}
@@ -88,9 +86,9 @@ worked-overlay Turn.Budget ls old h = refl
 worked-overlay Turn.Spare ls old h = refl
 
 -- a task's turn is the first open task's
-pub choose-first : (k : Kind) (above busy waiting may : Bool) (first : ℕ) (turn : Turn) → turn ≡ choose k above busy waiting may first → IsFirst turn first
-choose-first k true busy waiting may first turn e i f = cc
-choose-first k false busy waiting may first turn e i f = go may busy (servesIdle k && waiting) (sym f ∙ e)
+pub choose-first : (above busy waiting may : Bool) (first : ℕ) (turn : Turn) → turn ≡ choose above busy waiting may first → IsFirst turn first
+choose-first true busy waiting may first turn e i f = cc
+choose-first false busy waiting may first turn e i f = go may busy waiting (sym f ∙ e)
   where
     go : (el bu sp : Bool) → Turn.Task i ≡ cond el Turn.Budget (cond bu (Turn.Task first) (cond sp Turn.Spare Turn.Nobody)) → i ≡ first
     go true bu sp e = let z : _≡_ {A = ℕ} 0 1 = cc in absurd (omega arith)
@@ -98,10 +96,10 @@ choose-first k false busy waiting may first turn e i f = go may busy (servesIdle
     go false false true e = let z : _≡_ {A = ℕ} 0 1 = cc in absurd (omega arith)
     go false false false e = let z : _≡_ {A = ℕ} 0 1 = cc in absurd (omega arith)
 
-choose-task : (k : Kind) (above busy waiting may : Bool) (first n : ℕ) → (above ≡ true → first < n) → (busy ≡ true → first < n) →
-    (i : ℕ) → choose k above busy waiting may first ≡ Turn.Task i → i < n
-choose-task k true busy waiting may first n a b i e = let s : first ≡ i = cc in omega (arith, a refl)
-choose-task k false busy waiting may first n a b i e = go may busy b (servesIdle k && waiting) e
+choose-task : (above busy waiting may : Bool) (first n : ℕ) → (above ≡ true → first < n) → (busy ≡ true → first < n) →
+    (i : ℕ) → choose above busy waiting may first ≡ Turn.Task i → i < n
+choose-task true busy waiting may first n a b i e = let s : first ≡ i = cc in omega (arith, a refl)
+choose-task false busy waiting may first n a b i e = go may busy b waiting e
   where
     go : (el bu : Bool) → (bu ≡ true → first < n) → (sp : Bool) → cond el Turn.Budget (cond bu (Turn.Task first) (cond sp Turn.Spare Turn.Nobody)) ≡ Turn.Task i → i < n
     go true bu b sp e = let z : _≡_ {A = ℕ} 0 1 = cc in absurd (omega arith)
@@ -116,32 +114,11 @@ seen-is t q (Turn.Task i) above busy = refl
 seen-is t q Turn.Budget above busy = refl
 seen-is t q Turn.Spare above busy = refl
 
--- ---- a request that waits where there is no room to hold its tick: only kind 4 meets that, and kind 4 looks at no request then
-and-true : (a : Bool) → a && true ≡ a
-and-true true = refl
-and-true false = refl
-
 and-apart : (a b c : Bool) → (a && b) && c ≡ b && (a && c)
 and-apart true true c = refl
 and-apart true false c = refl
 and-apart false true c = refl
 and-apart false false c = refl
-
-module _ (s : Server) (t : ℕ) (r : Returns) (w : Bool) where
-  unlooked : (k : Kind) → servesIdle k && (w && edgeFor k s t r .room) ≡ servesIdle k && w
-  unlooked background = and-true w
-  unlooked polling = refl
-  unlooked deferrable = refl
-  unlooked sporadic = refl
-  unlooked returning = refl
-
-  unshown : (k : Kind) (x : ServerState) (u : ℕ) (last : Bool) (turn : Turn) (above busy : Bool) →
-      kept k s x (seenOf u (w && edgeFor k s t r .room) last turn above busy) ≡ kept k s x (seenOf u w last turn above busy)
-  unshown background x u last turn above busy = refl
-  unshown polling x u last turn above busy = rw (and-true w)
-  unshown deferrable x u last turn above busy = refl
-  unshown sporadic x u last turn above busy = refl
-  unshown returning x u last turn above busy = refl
 
 -- ---- a state that may run one tick keeps its limits
 pub may-facts : (s : State) → mayRun 1 s ≡ true → StateFacts s
@@ -180,7 +157,7 @@ module _ (t : Table) (p : Progress) (q : Queue) (r : Returns) (may : mayRun 1 (s
 
   within : (i : ℕ) → turnAt (taskSetOf t) (modelOf s) ≡ Turn.Task i → i < length (leftsBy t p)
   within i e =
-      choose-task (kindOf (t .server .kind)) (aboveAt (taskSetOf t) (modelOf s)) (busyAt (taskSetOf t) (modelOf s)) (waits (waitingOf q)) (mayAt (taskSetOf t) (modelOf s)) (firstOpen (leftsBy t p)) (length (leftsBy t p))
+      choose-task (aboveAt (taskSetOf t) (modelOf s)) (busyAt (taskSetOf t) (modelOf s)) (waits (waitingOf q)) (mayAt (taskSetOf t) (modelOf s)) (firstOpen (leftsBy t p)) (length (leftsBy t p))
       (λ a. let b : firstOpen (leftsBy t p) < t .server .place = ltb-true _ _ (above-is ∙ a) in omega (arith, long, limits .server .place))
       (λ a. let b : firstOpen (leftsBy t p) < t .n = ltb-true _ _ (busy-is ∙ a) in omega (arith, long))
       i e
@@ -201,10 +178,9 @@ module _ (t : Table) (p : Progress) (q : Queue) (r : Returns) (may : mayRun 1 (s
       and-apart (waits (waitingOf q)) (edgeAt s .room) _
       ∙ rw (edge-room (kindOf (t .server .kind)) (t .server) (p .clock) (p .server) r (facts .returns) (may-delay s may)) refl
 
-  pub decide-is : (c : ℕ) (st : Started) (w v back : Bool) (turn : Turn) (l : List ℕ) (e : Seen) (x : ServerState) →
-      st ≡ startedBy t p back c → w ≡ headOf (waitingOf q) .waits && edgeAt s .room → v ≡ headOf (waitingOf q) .last → back ≡ edgeAt s .back →
-      turn ≡ choose (kindOf (t .server .kind)) (ltb (st .first) (t .server .place)) (ltb (st .first) (t .n)) w
-      (w && ltb 0 (st .server .budget)) (st .first) →
+  pub decide-is : (c : ℕ) (st : Started) (w a v back : Bool) (turn : Turn) (l : List ℕ) (e : Seen) (x : ServerState) →
+      st ≡ startedBy t p back c → w ≡ headOf (waitingOf q) .waits → a ≡ headOf (waitingOf q) .waits && edgeAt s .room → v ≡ headOf (waitingOf q) .last → back ≡ edgeAt s .back →
+      turn ≡ choose (ltb (st .first) (t .server .place)) (ltb (st .first) (t .n)) w (a && ltb 0 (st .server .budget)) (st .first) →
       l ≡ workedTasks turn (st .left) →
       e ≡ seenOf (p .clock) w v turn (ltb (st .first) (t .server .place)) (ltb (st .first) (t .n)) →
       x ≡ consumed (t .server) (st .server) e →
@@ -215,17 +191,14 @@ module _ (t : Table) (p : Progress) (q : Queue) (r : Returns) (may : mayRun 1 (s
         calm = st .calm;
       }
       ≡ decidedBy s c
-  decide-is c st w v back turn l e x es ew ev eb et el ee ex =
-      let k : Kind = kindOf (t .server .kind) in
+  decide-is c st w a v back turn l e x es ew ea ev eb et el ee ex =
       let b1 : st .server ≡ serverAt (taskSetOf t) (modelOf s) .part = rw (es, eb) server-is in
-      let m1 : w && ltb 0 (st .server .budget) ≡ mayAt (taskSetOf t) (modelOf s) = rw (b1, ew) eligible-is in
-      let i1 : servesIdle k && w ≡ servesIdle k && waits (waitingOf q) = rw ew (unlooked (t .server) (p .clock) r (waits (waitingOf q)) k) in
-      let t1 : turn ≡ turnAt (taskSetOf t) (modelOf s) = et ∙ rw (m1, i1, es, above-is, busy-is) refl in
+      let m1 : a && ltb 0 (st .server .budget) ≡ mayAt (taskSetOf t) (modelOf s) = rw (b1, ea) eligible-is in
+      let t1 : turn ≡ turnAt (taskSetOf t) (modelOf s) = et ∙ rw (m1, ew, es, above-is, busy-is) refl in
       let l1 : l ≡ overlay (workedTasks (turnAt (taskSetOf t) (modelOf s)) (leftsBy t p)) (p .left) = el ∙ rw (es, t1) (worked-overlay (turnAt (taskSetOf t) (modelOf s)) (leftsBy t p) (p .left) within) in
       let seen = seenOf (p .clock) (waits (waitingOf q)) (headOf (waitingOf q) .last) (turnAt (taskSetOf t) (modelOf s)) (aboveAt (taskSetOf t) (modelOf s)) (busyAt (taskSetOf t) (modelOf s)) in
       let e1 : seen ≡ seenAt (taskSetOf t) (modelOf s) = seen-is (p .clock) (waitingOf q) (turnAt (taskSetOf t) (modelOf s)) (aboveAt (taskSetOf t) (modelOf s)) (busyAt (taskSetOf t) (modelOf s)) in
-      let x1 : x ≡ stateAfter s .progress .server = ex ∙ rw (b1, ee, es, ew, ev, t1, above-is, busy-is)
-      (unshown (t .server) (p .clock) r (waits (waitingOf q)) k (serverAt (taskSetOf t) (modelOf s) .part) (p .clock) (headOf (waitingOf q) .last) (turnAt (taskSetOf t) (modelOf s)) (aboveAt (taskSetOf t) (modelOf s)) (busyAt (taskSetOf t) (modelOf s)) ∙ rw e1 consumed-is) in
+      let x1 : x ≡ stateAfter s .progress .server = ex ∙ rw (b1, ee, es, ew, ev, t1, above-is, busy-is) (rw e1 consumed-is) in
       rw (x1, l1, t1, es)
 
 -- ---- the returns after a tick: as `advance` gives them, or as they were

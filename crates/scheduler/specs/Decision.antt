@@ -50,10 +50,10 @@ decidedBy s c = record {
 }
 
 -- The decision d is the tick's, whatever the queue and the returns are of which was read whether a request waits, with room to hold its
--- tick, whether none does after a served tick, and whether a held tick comes back. (Where there is no room, kind 4 looks at no request.)
-abbrev pub Decides : Table → Progress → Bool → Bool → Bool → ℕ → Decision → Type 0
-Decides t p waiting last back c d = (q : Queue) (r : Returns) → waiting ≡ headOf (waitingOf q) .waits && edgeAt (stateOf t p q r) .room →
-    last ≡ headOf (waitingOf q) .last → back ≡ edgeAt (stateOf t p q r) .back → mayRun 1 (stateOf t p q r) ≡ true →
+-- tick, whether none waits after a tick that the head has, and whether a held tick comes back.
+abbrev pub Decides : Table → Progress → Bool → Bool → Bool → Bool → ℕ → Decision → Type 0
+Decides t p waiting ready last back c d = (q : Queue) (r : Returns) → waiting ≡ headOf (waitingOf q) .waits →
+    ready ≡ headOf (waitingOf q) .waits && edgeAt (stateOf t p q r) .room → last ≡ headOf (waitingOf q) .last → back ≡ edgeAt (stateOf t p q r) .back → mayRun 1 (stateOf t p q r) ≡ true →
     d ≡ decidedBy (stateOf t p q r) c
 
 -- who has the tick, by the id of the queue's head

@@ -11,12 +11,12 @@ use Rattle.rules.specs.declared.Turn.{Turn}
 use Rattle.rules.specs.Tick.{byBudget}
 use Rattle.scheduler.specs.declared.work.Head.{Head}
 
--- a served tick is the head's last; of an empty queue too
+-- a tick that the head has is its last; of an empty queue too
 abbrev pub ends : List Request → Bool
 ends [] = true
 ends (r ∷ q) = leb (r .work) 1
 
--- all that a tick reads of a queue: whether a request waits, whether a served tick is the head's last, whether none waits after it,
+-- all that a tick reads of a queue: whether a request waits, whether a tick that the head has is its last, whether none waits after it,
 -- the head's id
 abbrev pub headOf : List Request → Head
 headOf q = record { waits = waits q; ends = ends q; last = not (waits (served q)); id = headId q }
@@ -39,7 +39,7 @@ toRequest (Turn.Task i) = false
 toRequest Turn.Budget = true
 toRequest Turn.Spare = true
 
--- what step 5 shows the server, by what is read of the queue: whether a request waits, and whether none does after a served tick
+-- what step 5 shows the server, by what is read of the queue: whether a request waits, and whether none does after a tick that the head has
 abbrev pub seenOf : ℕ → Bool → Bool → Turn → Bool → Bool → Seen
 seenOf t waiting last turn above busy = record {
   t = t;

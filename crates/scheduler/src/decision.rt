@@ -20,18 +20,19 @@ pub struct Decision {
     pub calm: u32,
 }
 
-// So that a run copies neither in every tick, it is told of the queue and the returns: whether a request waits that may be served
-// (`waiting`), whether none does after a served tick (`last`), and whether a held tick comes back.
+// So that a run copies neither in every tick, it is told of the queue and the returns: whether a request waits (`waiting`), with room to hold
+// its tick (`ready`), whether none waits after a tick that the head has (`last`), and whether a held tick comes back.
 pub fn decide(
     table: Table,
     progress: Progress,
     waiting: bool,
+    ready: bool,
     last: bool,
     back: bool,
     calm: u32,
 ) -> Decision
     requires { ⌜ TableFacts table × (progress .clock < lastClock) × CalmFor table progress calm ⌝ }
-    ensures { λ r. ⌜ Decides table progress waiting last back calm r ⌝ }
+    ensures { λ r. ⌜ Decides table progress waiting ready last back calm r ⌝ }
 {
     let server = table.server;
     let t = progress.clock;
@@ -39,8 +40,8 @@ pub fn decide(
     let full = s.server;
     let above = s.first < server.place;
     let busy = s.first < table.n;
-    let may = waiting & (0 < full.budget);
-    let turn = choose_turn(server.kind, above, busy, waiting, may, s.first);
+    let may = ready & (0 < full.budget);
+    let turn = choose_turn(above, busy, waiting, may, s.first);
     let opened = s.left;
     let left = work_tasks(opened, turn, s.first);
     let seen = show(t, waiting, last, turn, above, busy);

@@ -10,7 +10,7 @@ use rules::Turn;
 use server::Seen;
 use table::Table;
 
-// All that a tick reads of a queue: whether a request waits, whether a served tick is the head's last, whether none waits after it,
+// All that a tick reads of a queue: whether a request waits, whether a tick that the head has is its last, whether none waits after it,
 // the head's id.
 pub struct Head {
     pub waits: bool,

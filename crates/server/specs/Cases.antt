@@ -8,7 +8,7 @@ use Rattle.server.specs.declared.Server.{Server}
 use Rattle.server.specs.declared.ServerState.{ServerState}
 use Rattle.server.specs.declared.Seen.{Seen}
 use Rattle.server.specs.Kind.{background, polling, deferrable, sporadic, kindOf}
-use Rattle.server.specs.Server.{freshServer, replenish, eligible, servesIdle, consume, serverDemand}
+use Rattle.server.specs.Server.{freshServer, replenish, eligible, consume, serverDemand}
 
 abbrev server : ℕ → ℕ → ℕ → Server
 server k p b = record { kind = k; place = 0; period = p; budget = b }
@@ -94,6 +94,10 @@ refill k x t busy = replenish (kindOf k) (server k 5 3) x t busy
 abbrev shows : Bool → Bool → Bool → Bool → Seen
 shows above serves waited emptied = record { t = 9; above = above; busy = true; serves = serves; waited = waited; emptied = emptied }
 
+-- a tick that would be idle, which the queue's last request has
+abbrev spare : Seen
+spare = record { t = 9; above = false; busy = false; serves = false; waited = true; emptied = true }
+
 abbrev pay : ℕ → ServerState → Seen → ServerState
 pay k x e = consume (kindOf k) (server k 5 3) x e
 
@@ -162,6 +166,8 @@ pub record ServerCases : Type 0 where
   pub polling-waited : pay 1 (sp 2 0 0 0 false false false false) (shows false false true false) .budget ≡ 2
   pub polling-above : pay 1 (sp 2 0 0 0 false false false false) (shows true false false true) .budget ≡ 2
   pub polling-empty : pay 1 (sp 2 0 0 0 false false false false) (shows false false false true) .budget ≡ 0
+  -- 5/13: such a tick "takes no budget, doesn't count as service and sets no sporadic .. mark", nor does it empty polling's budget
+  pub idle-service : map (λ k. pay k (sp 2 1 2 0 false false false false) spare) (0 ∷ 1 ∷ 2 ∷ 3 ∷ 4 ∷ []) ≡ replicate 5 (sp 2 1 2 0 false false false false)
   -- sporadic, the first ground: served, nr = t and not late, each alone
   pub refill-at-nr : refill 3 (sp 1 2 2 7 true false false true) 7 true ≡ sp 3 7 2 0 false false false true
   pub refill-unserved : refill 3 (sp 1 2 2 7 false false false true) 7 true ≡ sp 1 2 2 7 false false false true
@@ -176,9 +182,8 @@ pub record ServerCases : Type 0 where
   pub refill-none-open : refill 3 (sp 1 2 2 9 true false false false) 7 false ≡ sp 1 2 2 9 true false false false
   pub refill-first-tick : refill 3 (sp 1 0 0 9 true false false false) 0 true ≡ sp 1 0 0 9 true false false false
   pub refill-was-open : refill 3 (sp 1 2 2 9 true false false true) 7 true ≡ sp 1 2 2 9 true false false true
-  -- step 4: b > 0, and a request waits; kind 0 alone serves in an idle tick
+  -- step 4: b > 0, and a request waits
   pub eligible-cases : eligible true (sp 1 0 0 0 false false false false) ∷ eligible true (sp 0 0 0 0 false false false false) ∷ eligible false (sp 1 0 0 0 false false false false) ∷ [] ≡ true ∷ false ∷ false ∷ []
-  pub idle-service : map servesIdle (background ∷ polling ∷ deferrable ∷ sporadic ∷ []) ≡ true ∷ false ∷ false ∷ false ∷ []
   -- admission: the server's term, below, at and past a period
   pub polling-demand : map (serverDemand polling (server 1 5 3)) (1 ∷ 5 ∷ 6 ∷ 11 ∷ []) ≡ 3 ∷ 3 ∷ 6 ∷ 9 ∷ []
   pub deferrable-demand : map (serverDemand deferrable (server 2 5 3)) (1 ∷ 3 ∷ 4 ∷ 8 ∷ 9 ∷ []) ≡ 3 ∷ 3 ∷ 6 ∷ 6 ∷ 9 ∷ []
@@ -209,6 +214,7 @@ server-cases = record {
   polling-waited = refl;
   polling-above = refl;
   polling-empty = refl;
+  idle-service = refl;
   refill-at-nr = refl;
   refill-unserved = refl;
   refill-not-at-nr = refl;
@@ -221,7 +227,6 @@ server-cases = record {
   refill-first-tick = refl;
   refill-was-open = refl;
   eligible-cases = refl;
-  idle-service = refl;
   polling-demand = refl;
   deferrable-demand = refl;
   sporadic-demand = refl;

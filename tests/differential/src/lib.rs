@@ -4,6 +4,7 @@
 pub mod abi;
 pub mod call;
 pub mod convert;
+pub mod idle;
 pub mod open;
 pub mod padding;
 pub mod pair;

@@ -172,7 +172,8 @@ fn good(random: &mut Random, rows: u32, period: u32, ticks: u32) -> Vec<String> 
 }
 
 /// A server of kind 4 that serves single ticks, with a tick or more between them: more stretches than it may hold are wanted. Either the
-/// requests come so, or one waits all the time and a row above has every other tick or so.
+/// requests come so, or one waits all the time and a row above has every other tick or so. In half of them a row below wants much: a tick
+/// that the server may not serve goes to that row, where else it would be idle and go to a request all the same.
 fn many_stretches(random: &mut Random) -> Vec<String> {
     let n = random.from(1, 3);
     let mut table = Table { n, ..Table::default() };
@@ -183,6 +184,9 @@ fn many_stretches(random: &mut Random) -> Vec<String> {
     if by_row {
         let period = random.pick(&[2, 2, 2, 3]);
         table.rows[0] = Row { phase: random.from(0, 9), period, exec: random.from(1, period - 1), deadline: period };
+    }
+    if table.server.place < n && random.once_in(2) {
+        table.rows[n as usize - 1] = Row { phase: random.from(0, 99), period: 200, exec: random.from(50, 200), deadline: 200 };
     }
     let mut lines = table_lines(&table);
     lines.extend(if by_row { long_requests(random) } else { single_requests(random) });

@@ -248,8 +248,21 @@ const LAST_PLACE: &str = "31 held and the last place taken";
 /// What a tick can show of kind 4.
 pub const SHOWN: [&str; 6] = [FULL, BLOCKED, GROWS, SHORTER, FREED, LAST_PLACE];
 
+/// Whether the last stretch held ends with the tick before this one.
+pub fn goes_on(returns: &Returns, tick: u32) -> bool {
+    returns.held > 0 && {
+        let last = returns.stretches[returns.held as usize - 1];
+        last.start + last.length == tick
+    }
+}
+
+/// Whether 32 are held, between steps 3 and 4, and the tick would open another.
+pub fn no_place(within: &State) -> bool {
+    within.table.server.kind == RETURNING && within.returns.held == 32 && !goes_on(&within.returns, within.clock)
+}
+
 /// What the next tick of a state shows of kind 4, between steps 3 and 4; nothing if it is refused. "Blocked" is a tick that only the want
-/// of a place keeps from a request.
+/// of a place keeps the server from.
 pub fn shown(before: &State) -> Vec<&'static str> {
     if before.table.server.kind != RETURNING || before.clock >= CLOCK_LAST || !before.is_fit() {
         return Vec::new();
@@ -258,11 +271,8 @@ pub fn shown(before: &State) -> Vec<&'static str> {
     let opened = within.begin_tick();
     let (was, held) = (before.returns.held, within.returns.held);
     let wanted = opened.above.is_none() && within.waiting > 0 && within.service.budget > 0;
-    let grows = held > 0 && {
-        let last = within.returns.stretches[held as usize - 1];
-        last.start + last.length == within.clock
-    };
-    let blocked = wanted && held == 32 && !grows;
+    let grows = goes_on(&within.returns, within.clock);
+    let blocked = wanted && no_place(&within);
     let all = [
         (FULL, held == 32),
         (BLOCKED, blocked),

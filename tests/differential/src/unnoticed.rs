@@ -5,6 +5,8 @@ use second::refusal::UNFIT_STATE;
 use second::table::ROWS;
 
 use crate::abi::{Calls, Entry, MovedResult, State, Table, TickResult};
+use crate::convert::from_state;
+use crate::idle::given;
 use crate::pair::{count, cut, Call, Pair};
 
 /// A tick as the library told of it, and the rows dropped in it.
@@ -13,6 +15,8 @@ pub struct Ticked {
     pub dropped: [bool; ROWS],
     /// The stretches held before it.
     pub held: u32,
+    /// It would be idle, and a request has it: by the second implementation, for the counts alone.
+    pub given: bool,
 }
 
 impl Ticked {
@@ -120,7 +124,8 @@ impl Player<'_> {
         must(clock as usize == u, || format!("tick {u} has clock {clock} before it"))?;
         let rows = dropped.iter().filter(|&&dropped| dropped).count();
         must(entry.drops as usize == rows, || format!("tick {u} reports {} drops, {rows} rows are dropped in it", entry.drops))?;
-        self.played.ticks.push(Ticked { entry, dropped, held: before.returns.n });
+        let given = entry.kind == 2 && given(&from_state(before));
+        self.played.ticks.push(Ticked { entry, dropped, held: before.returns.n, given });
         Ok(())
     }
 }

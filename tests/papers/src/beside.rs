@@ -7,7 +7,7 @@ use differential::call::{same, same_answer, same_state};
 use differential::convert::to_state;
 use second::plan::Plan;
 
-use crate::replay::{by_library, by_second, Field, Spoil, Tick, FIELDS};
+use crate::replay::{by_library, by_second, Field, Idle, Spoil, Tick, FIELDS};
 use crate::tables::{self, Expected, TABLES};
 use crate::text::units;
 use crate::Report;
@@ -19,17 +19,26 @@ pub fn check(dir: &Path, calls: Calls, spoil: Option<Spoil>, alone: bool) -> Rep
     let mut report = Report::default();
     for table in TABLES {
         let plan = tables::plan(dir, table.name);
-        match by_library(&plan, calls, spoil) {
-            Ok(ticks) => {
-                tables::check(dir, table, WHO, &ticks, &mut report);
-                if !alone {
-                    check_beside(table.name, &by_second(&plan), &ticks, &mut report);
+        for idle in [Idle::Withheld, Idle::Given] {
+            match by_library(&plan, calls, idle, spoil) {
+                Ok(ticks) => {
+                    check_ticks(dir, table, idle, &ticks, &mut report);
+                    if !alone {
+                        check_beside(table.name, &by_second(&plan, idle), &ticks, &mut report);
+                    }
                 }
+                Err(refused) => report.fault(format!("{}, {WHO}: {refused}", table.name)),
             }
-            Err(refused) => report.fault(format!("{}, {WHO}: {refused}", table.name)),
         }
     }
     report
+}
+
+fn check_ticks(dir: &Path, table: &Expected, idle: Idle, ticks: &[Tick], report: &mut Report) {
+    match idle {
+        Idle::Withheld => tables::check(dir, table, WHO, ticks, report),
+        Idle::Given => tables::check_given(table, ticks, report),
+    }
 }
 
 fn check_beside(name: &str, second: &[Tick], library: &[Tick], report: &mut Report) {
@@ -60,7 +69,7 @@ pub fn check_spoils(dir: &Path, calls: Calls) -> Report {
     let mut report = Report::default();
     for table in TABLES {
         let plan = tables::plan(dir, table.name);
-        let right = by_second(&plan);
+        let right = by_second(&plan, Idle::Withheld);
         let trial = Trial { dir, table, plan, right, calls };
         let counts: Vec<String> = FIELDS.iter().map(|&(name, field)| trial.spoil_each(name, field, &mut report)).collect();
         report.say(format!(
@@ -102,7 +111,7 @@ impl Trial<'_> {
 
     /// Whether the change is noticed beside the second implementation, and whether by the table alone.
     fn noticed(&self, spoil: Spoil) -> (bool, bool) {
-        let spoilt = by_library(&self.plan, self.calls, Some(spoil)).expect("these changes leave a state fit");
+        let spoilt = by_library(&self.plan, self.calls, Idle::Withheld, Some(spoil)).expect("these changes leave a state fit");
         let mut report = Report::default();
         tables::check(self.dir, self.table, WHO, &spoilt, &mut report);
         (first_difference(&self.right, &spoilt).is_some(), !report.faults.is_empty())

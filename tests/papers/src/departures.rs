@@ -1,4 +1,5 @@
-//! Each cell of document 004's tables where the print departs from the rules, and why.
+//! Each cell of document 004's tables where the print departs from the rules, and why; and each tick that the print leaves idle and the
+//! rules give to a request.
 
 pub struct Departure {
     pub table: &'static str,
@@ -63,4 +64,29 @@ pub const DEPARTURES: &[Departure] = &[
     scanned(24, "16.00"),
     scanned(28, "18.00"),
     scanned(31, "20.00"),
+];
+
+/// Ticks from one time to before another in which the print has nobody execute while a request waits: "the server is eligible (ready) for
+/// execution only when it is backlogged and has budget" (document 004). By document 02, 5/13, the request has them.
+pub struct Given {
+    pub table: &'static str,
+    pub from: &'static str,
+    pub to: &'static str,
+    pub request: u32,
+}
+
+const fn given(table: &'static str, from: &'static str, to: &'static str, request: u32) -> Given {
+    Given { table, from, to, request }
+}
+
+pub const GIVEN: &[Given] = &[
+    given("polling", "13.50", "15.00", 2),
+    given("polling", "17.00", "18.00", 2),
+    given("polling", "19.00", "20.00", 2),
+    given("deferrable", "14.00", "15.00", 2),
+    given("deferrable", "17.25", "18.00", 3),
+    given("deferrable", "19.00", "20.00", 3),
+    given("sporadic", "14.00", "15.00", 2),
+    given("sporadic", "17.00", "18.00", 3),
+    given("sporadic", "19.5", "20.00", 3),
 ];

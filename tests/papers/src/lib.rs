@@ -2,8 +2,9 @@
 //!
 //! `replay` goes through a plan tick by tick, by the second implementation or by a library's calls; `tables` holds document
 //! 004's fixed-priority tables against such a replay, line by line; `beside` does so with the library's and compares it, tick by tick,
-//! with the second implementation's. `examples` holds what documents 000, 001 and 002 say of their examples. Each scenario is also a
-//! plan (`*.plan`) with its output (`*.out`) for any program that claims to be `schedule`.
+//! with the second implementation's. `examples` holds what documents 000, 001 and 002 say of their examples. Where a paper leaves a tick
+//! idle while a request waits, the replay withholds it from the request, and the tick is listed (document 02, 5/13). Each scenario is also
+//! a plan (`*.plan`) with its output (`*.out`), idle ticks given, for any program that claims to be `schedule`.
 
 pub mod beside;
 pub mod departures;
@@ -14,6 +15,8 @@ pub mod text;
 
 use std::fs;
 use std::path::Path;
+
+use replay::{by_second, Idle};
 
 /// What was checked, in words, and what failed.
 #[derive(Default)]
@@ -55,8 +58,9 @@ pub fn plans(dir: &Path) -> Vec<String> {
 pub fn check(dir: &Path) -> Report {
     let mut report = Report::default();
     for table in tables::TABLES {
-        let ticks = replay::by_second(&tables::plan(dir, table.name));
-        tables::check(dir, table, "the second implementation", &ticks, &mut report);
+        let plan = tables::plan(dir, table.name);
+        tables::check(dir, table, "the second implementation", &by_second(&plan, Idle::Withheld), &mut report);
+        tables::check_given(table, &by_second(&plan, Idle::Given), &mut report);
     }
     for example in examples::EXAMPLES {
         examples::check(dir, example, &mut report);

@@ -1,9 +1,8 @@
 //! A plan replayed tick by tick, by the second implementation or by a library's calls.
 
 use differential::abi::{self, Calls};
-use differential::convert::{from_state, from_tick, to_table};
+use differential::convert::{from_state, from_tick, to_state, to_table};
 use second::plan::Plan;
-use second::state::WORK_MOST;
 use second::{State, Ticked};
 
 /// Who is replayed. A refused call gives its number.
@@ -12,6 +11,8 @@ pub trait Scheduler {
     fn request(&mut self, id: u32, work: u32) -> Result<(), u32>;
     /// The budget between steps 3 and 4, and the tick's answer.
     fn tick(&mut self) -> Result<(u32, Ticked), u32>;
+    /// The request that had this tick, the last one, has its work back.
+    fn take_back(&mut self, tick: &Tick);
 }
 
 /// The second implementation: its tick comes in two halves, and the budget is read between them.
@@ -27,6 +28,16 @@ impl Scheduler for State {
     fn tick(&mut self) -> Result<(u32, Ticked), u32> {
         let opened = self.begin_tick();
         Ok((self.service.budget, self.end_tick(opened)))
+    }
+
+    fn take_back(&mut self, tick: &Tick) {
+        if tick.answer.finish.is_none() {
+            self.queue[0].work += 1;
+            return;
+        }
+        self.queue.copy_within(0..self.waiting as usize, 1);
+        self.queue[0] = tick.before.queue[0];
+        self.waiting += 1;
     }
 }
 
@@ -48,26 +59,36 @@ impl Library {
         Ok(Library::at(calls, done(made.number, made.state)?))
     }
 
-    fn presented(&self, id: u32, work: u32) -> Result<abi::State, u32> {
-        // SAFETY: structs by value, no pointer.
-        let moved = unsafe { (self.calls.request)(self.state, id, work) };
-        done(moved.number, moved.state)
-    }
-
     fn ticked(&self, state: abi::State) -> Result<abi::TickResult, u32> {
         // SAFETY: structs by value, no pointer.
         let tick = unsafe { (self.calls.tick)(state) };
         done(tick.number, tick)
     }
 
-    /// The budget between steps 3 and 4 of the next tick, asked of the library itself: a copy of the state is ticked with one more
-    /// request waiting, so long that the tick does not end it. Replenishment does not look at the queue; and where a request waits before
-    /// and after the tick, a budget falls by one if a request has the tick, and in no other way: no poller finds its queue empty, a
-    /// sporadic server with budget does not idle, and kind 4's falls by service alone. So what was there is what is left and the one that was taken.
+    /// The budget between steps 3 and 4 of the next tick, asked of the library itself: a copy of the state is ticked with a row of its own
+    /// on top that is open in every tick. That row has the tick, and under every kind a budget stays where a row above is open. Of the
+    /// rows only R3b's replenishment asks, whether one is open now and none was in the tick before: if none of the others is open now, the
+    /// copy says that one was. Only for a table with a slot left.
     pub fn budget_within(&self) -> Result<u32, u32> {
-        let tick = self.ticked(self.presented(0, WORK_MOST)?)?;
-        Ok(tick.state.progress.server.budget + (tick.kind == 2) as u32)
+        let busy = self.ticked(self.state)?.state.progress.server.sporadic.busy;
+        let mut copy = self.state;
+        on_top(&mut copy, ALWAYS_OPEN);
+        copy.progress.server.sporadic.busy |= (busy == 0) as u32;
+        Ok(self.ticked(copy)?.state.progress.server.budget)
     }
+}
+
+const ALWAYS_OPEN: abi::Task = abi::Task { phase: 0, period: 1, exec: 1, deadline: 1 };
+
+/// One row more, above the others and the server.
+fn on_top(state: &mut abi::State, task: abi::Task) {
+    let table = &mut state.table;
+    table.tasks.rotate_right(1);
+    table.tasks[0] = task;
+    table.n += 1;
+    table.server.place += 1;
+    state.progress.left.rotate_right(1);
+    state.progress.left[0] = 0;
 }
 
 fn done<T>(number: u32, value: T) -> Result<T, u32> {
@@ -84,7 +105,9 @@ impl Scheduler for Library {
     }
 
     fn request(&mut self, id: u32, work: u32) -> Result<(), u32> {
-        self.state = self.presented(id, work)?;
+        // SAFETY: structs by value, no pointer.
+        let moved = unsafe { (self.calls.request)(self.state, id, work) };
+        self.state = done(moved.number, moved.state)?;
         Ok(())
     }
 
@@ -95,6 +118,12 @@ impl Scheduler for Library {
             spoil.change(&mut self.state);
         }
         Ok((budget, from_tick(&tick)))
+    }
+
+    fn take_back(&mut self, tick: &Tick) {
+        let mut state = self.state();
+        state.take_back(tick);
+        self.state.queue = to_state(&state).queue;
     }
 }
 
@@ -143,26 +172,48 @@ pub struct Tick {
     pub after: State,
 }
 
-/// Every tick of the plan, each request presented before its tick.
-pub fn replay(plan: &Plan, scheduler: &mut impl Scheduler) -> Result<Vec<Tick>, String> {
-    (0..plan.ticks).map(|t| one_tick(plan, scheduler, t).map_err(|number| format!("tick {t}: refused with {number}"))).collect()
+impl Tick {
+    /// The request that has a tick which would be idle (document 02, 5/13): there is no budget then. (But for kind 4 with 32 stretches
+    /// held, which no plan here comes to.)
+    pub fn given(&self) -> Option<u32> {
+        (self.answer.entry.kind == 2 && self.budget == 0).then_some(self.answer.entry.id)
+    }
 }
 
-fn one_tick(plan: &Plan, scheduler: &mut impl Scheduler, t: u32) -> Result<Tick, u32> {
+/// What a replay does with a tick that would be idle while a request waits.
+#[derive(Clone, Copy, PartialEq)]
+pub enum Idle {
+    /// The request has it, by the rules.
+    Given,
+    /// As in the papers, the request has nothing of it: the tick is taken back from the queue. All else stays as the tick left it, since it
+    /// "takes no budget, doesn't count as service and sets no sporadic or kind 4 mark" (document 02, 5/13).
+    Withheld,
+}
+
+/// Every tick of the plan, each request presented before its tick.
+pub fn replay(plan: &Plan, scheduler: &mut impl Scheduler, idle: Idle) -> Result<Vec<Tick>, String> {
+    (0..plan.ticks).map(|t| one_tick(plan, scheduler, t, idle).map_err(|number| format!("tick {t}: refused with {number}"))).collect()
+}
+
+fn one_tick(plan: &Plan, scheduler: &mut impl Scheduler, t: u32, idle: Idle) -> Result<Tick, u32> {
     for arrival in plan.arrivals.iter().filter(|arrival| arrival.tick == t) {
         scheduler.request(arrival.id, arrival.work)?;
     }
     let before = scheduler.state();
     let (budget, answer) = scheduler.tick()?;
-    Ok(Tick { before, budget, answer, after: scheduler.state() })
+    let tick = Tick { before, budget, answer, after: scheduler.state() };
+    if idle == Idle::Withheld && tick.given().is_some() {
+        scheduler.take_back(&tick);
+    }
+    Ok(tick)
 }
 
-pub fn by_second(plan: &Plan) -> Vec<Tick> {
+pub fn by_second(plan: &Plan, idle: Idle) -> Vec<Tick> {
     let mut fresh = State::set_up(plan.table).expect("the papers' tables keep the limits");
-    replay(plan, &mut fresh).expect("the queue has room")
+    replay(plan, &mut fresh, idle).expect("the queue has room")
 }
 
-pub fn by_library(plan: &Plan, calls: Calls, spoil: Option<Spoil>) -> Result<Vec<Tick>, String> {
+pub fn by_library(plan: &Plan, calls: Calls, idle: Idle, spoil: Option<Spoil>) -> Result<Vec<Tick>, String> {
     let fresh = Library::set_up(calls, &plan.table).map_err(|number| format!("set-up: refused with {number}"))?;
-    replay(plan, &mut Library { spoil, ..fresh })
+    replay(plan, &mut Library { spoil, ..fresh }, idle)
 }

@@ -1,11 +1,12 @@
-//! Document 004's fixed-priority tables, replayed line by line. A tick is a quarter of the paper's unit.
+//! Document 004's fixed-priority tables, replayed line by line. A tick is a quarter of the paper's unit. The paper leaves ticks idle while
+//! a request waits: in the replay that is held against a table such a tick is withheld from the request, and `GIVEN` lists them all.
 
 use std::path::Path;
 
 use second::plan::{read, Plan};
 use second::table::POLLING;
 
-use crate::departures::{Departure, DEPARTURES};
+use crate::departures::{Departure, DEPARTURES, GIVEN};
 use crate::replay::Tick;
 use crate::text::{self, plain, ticks, units};
 use crate::Report;
@@ -21,6 +22,10 @@ pub const TABLES: &[Expected] = &[
     Expected { name: "deferrable", responses: ["4.75", "4.50", "4.00"] },
     Expected { name: "sporadic", responses: ["4.75", "4.50", "3.75"] },
 ];
+
+/// The responses of A1, A2, A3 under each server with idle ticks given, worked out by hand: A1 meets none, and no row is open from 13.50 to
+/// 14.25 nor from 17.00 to 17.75.
+const GIVEN_RESPONSES: [&str; 3] = ["4.75", "2.00", "0.75"];
 
 /// One tick as a line of the paper would show it: the middle of the tick, between steps 3 and 4, and who then executes.
 struct Shown {
@@ -104,11 +109,12 @@ fn job(tick: &Tick, i: usize) -> String {
     format!("J{},{}", i + 1, (tick.before.clock - row.phase) / row.period + 1)
 }
 
+/// The server, or a request alone in a tick that would be idle.
 fn executed(tick: &Tick) -> String {
     match (tick.answer.entry.kind, tick.answer.entry.id) {
         (0, _) => "-".to_string(),
         (1, i) if i < tick.before.table.n => job(tick, i as usize),
-        (2, _) => "JS".to_string(),
+        (2, _) => tick.given().map_or("JS".to_string(), |id| format!("A{id}")),
         (kind, id) => format!("kind {kind}, id {id}"),
     }
 }
@@ -144,7 +150,7 @@ pub fn last_budget(dir: &Path, name: &str) -> u32 {
     ticks(&table.lines[line][0]).expect("a time")
 }
 
-/// The paper's table against a replay by `who`.
+/// The paper's table against a replay by `who` with idle ticks withheld.
 pub fn check(dir: &Path, expected: &Expected, who: &str, replayed: &[Tick], report: &mut Report) {
     let name = expected.name;
     let table = table(dir, name);
@@ -155,7 +161,14 @@ pub fn check(dir: &Path, expected: &Expected, who: &str, replayed: &[Tick], repo
     }
     check.say();
     check.say_departures();
-    check_responses(expected, replayed, report);
+    check.say_given();
+    let printed = replayed.iter().filter(|tick| tick.given().is_none());
+    check_responses(name, "idle ticks withheld", printed, expected.responses, report);
+}
+
+/// What the rules make of the same plan: a replay by `who` with idle ticks given.
+pub fn check_given(expected: &Expected, replayed: &[Tick], report: &mut Report) {
+    check_responses(expected.name, "idle ticks given", replayed.iter(), GIVEN_RESPONSES, report);
 }
 
 #[derive(Default)]
@@ -163,6 +176,8 @@ struct Count {
     cells: usize,
     blank: usize,
     occupants: usize,
+    /// Ticks that would be idle.
+    given: usize,
     /// Budgets between steps 3 and 4, of ticks that have no line.
     within: usize,
     /// Budgets after step 5.
@@ -198,7 +213,7 @@ impl Check<'_> {
                 self.count.cells += 1;
             } else if departs(self.name, line, column, time, &plain(cell), &rule) {
                 self.count.departed.push((line, column.clone()));
-            } else {
+            } else if column != "Execute" || !self.is_given(self.time(line), cell) {
                 self.report.fault(format!("{} at {time}: {column} is printed {cell}, {} gives {rule}", self.name, self.who));
             }
         }
@@ -238,10 +253,18 @@ impl Check<'_> {
         ticks(self.table.cell(line, "Budget"))
     }
 
+    /// Whether nobody executes by the print, and by the rules the request that is listed.
+    fn is_given(&self, t: u32, printed: &str) -> bool {
+        let listed = GIVEN.iter().find(|given| given.table == self.name && (ticks(given.from)..ticks(given.to)).contains(&Some(t)));
+        printed == "-" && listed.is_some_and(|given| self.shown[t as usize].execute == format!("A{}", given.request))
+    }
+
     fn occupant(&mut self, t: u32, execute: &str) {
         let executes = &self.shown[t as usize].execute;
         if executes == execute {
             self.count.occupants += 1;
+        } else if self.is_given(t, execute) {
+            self.count.given += 1;
         } else {
             self.report.fault(format!("{} at {}: {execute} should execute, by {} {executes} does", self.name, units(t), self.who));
         }
@@ -259,13 +282,15 @@ impl Check<'_> {
         let count = &self.count;
         self.report.say(format!(
             "document 004, RM + {} server, by {}: {} lines, {} cells agree, {} left blank by the paper, \
-             {} ticks' occupants agree, and {} budgets between lines and {} after a tick",
+             {} ticks' occupants agree, {} are idle in print and a request's by the rules, \
+             and {} budgets between lines and {} after a tick agree",
             self.name,
             self.who,
             self.table.lines.len(),
             count.cells,
             count.blank,
             count.occupants,
+            count.given,
             count.within,
             count.after
         ));
@@ -288,6 +313,21 @@ impl Check<'_> {
             self.report.say(format!("  departs at {}: {what}", times.join(", ")));
         }
     }
+
+    /// Names the ticks that the paper leaves idle and the rules give to a request; one that is not among the table's is a fault.
+    fn say_given(&mut self) {
+        let mut listed = 0;
+        for given in GIVEN.iter().filter(|given| given.table == self.name) {
+            listed += (ticks(given.to).expect("a time") - ticks(given.from).expect("a time")) as usize;
+            self.report.say(format!(
+                "  departs from {} to {}: A{} waits and nobody executes; by document 02, 5/13, it does",
+                given.from, given.to, given.request
+            ));
+        }
+        if self.count.given != listed {
+            self.report.fault(format!("{}: {} ticks given to a request, {listed} are listed", self.name, self.count.given));
+        }
+    }
 }
 
 fn departs(name: &str, line: usize, column: &str, time: &str, printed: &str, rule: &str) -> bool {
@@ -295,13 +335,13 @@ fn departs(name: &str, line: usize, column: &str, time: &str, printed: &str, rul
     DEPARTURES.iter().any(same)
 }
 
-fn check_responses(expected: &Expected, replayed: &[Tick], report: &mut Report) {
-    let finished = replayed.iter().filter_map(|tick| tick.answer.finish);
+fn check_responses<'a>(name: &str, with: &str, ticked: impl Iterator<Item = &'a Tick>, wanted: [&str; 3], report: &mut Report) {
+    let finished = ticked.filter_map(|tick| tick.answer.finish);
     let ruled: Vec<(u32, u32)> = finished.map(|finish| (finish.id, finish.response)).collect();
-    let printed: Vec<(u32, u32)> = (1..).zip(expected.responses.map(|units| ticks(units).expect("units"))).collect();
-    if ruled == printed {
-        report.say(format!("  responses agree: {} units", expected.responses.join(", ")));
+    let in_ticks: Vec<(u32, u32)> = (1..).zip(wanted.map(|units| ticks(units).expect("units"))).collect();
+    if ruled == in_ticks {
+        report.say(format!("  responses, {with}: {} units", wanted.join(", ")));
     } else {
-        report.fault(format!("{}: responses {ruled:?} in ticks, printed {printed:?}", expected.name));
+        report.fault(format!("{name}, {with}: responses {ruled:?} in ticks, wanted {in_ticks:?}"));
     }
 }

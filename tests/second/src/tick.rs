@@ -30,7 +30,7 @@ pub enum Occupant {
     Row(usize),
     /// The head request, on the server's budget.
     Served,
-    /// The head request, in time that nobody else wants.
+    /// The head request, in a tick that would be idle: no service, and no budget is taken.
     Background,
 }
 
@@ -162,7 +162,8 @@ impl State {
         }
     }
 
-    /// Step 4.
+    /// Step 4. "At the end of step 4, for every kind, a tick that would be idle goes to the head request if there is one" (document 02,
+    /// 5/13).
     fn occupant(&self, opened: &Opened) -> Occupant {
         if let Some(i) = opened.above {
             return Occupant::Row(i);
@@ -173,7 +174,7 @@ impl State {
         if let Some(i) = opened.below {
             return Occupant::Row(i);
         }
-        if self.waiting > 0 && self.table.server.kind == BACKGROUND {
+        if self.waiting > 0 {
             return Occupant::Background;
         }
         Occupant::Idle
@@ -215,7 +216,8 @@ impl State {
         Some(Finish { id: head.id, response: self.clock + 1 - head.arrival })
     }
 
-    /// Step 5, second half: the server's budget, by kind. `empty` is the queue at step 4.
+    /// Step 5, second half: the server's budget, by kind. `served` is a tick by the budget; a tick that would be idle "takes no budget,
+    /// doesn't count as service and sets no sporadic or kind 4 mark" (document 02, 5/13). `empty` is the queue at step 4.
     fn consume(&mut self, opened: &Opened, served: bool, empty: bool) {
         let above = opened.above.is_some();
         match self.table.server.kind {

@@ -1,4 +1,5 @@
-//! Document 01's listing, closed by document 02's E line (1/13), its marked cases, and cases for the rules that the marked ones let pass.
+//! Document 01's listing, closed by document 02's E line (1/13), its marked cases, with the figures that document 02 gives them (5/13), and
+//! cases for the rules that the marked ones let pass.
 
 use second::print::schedule;
 
@@ -29,9 +30,11 @@ fn listing() {
 fn four_services() {
     let plan = |server: &str| format!("T,3,6,2,6\n{server}\nA,3,7,4\nR,30\n");
     assert_eq!(responses(&plan("S,0,1,0,0")), [6]);
-    assert_eq!(responses(&plan("S,1,0,5,2")), [9]);
+    // 5/13: 9 in document 01. By the budget at 5 and 6, and the idle ticks 7 and 8.
+    assert_eq!(responses(&plan("S,1,0,5,2")), [6]);
     assert_eq!(responses(&plan("S,2,0,5,2")), [4]);
-    assert_eq!(responses(&plan("S,3,0,5,2")), [7]);
+    // 5/13: 7 in document 01. By the budget at 3 and 4, the idle tick 7, and by the budget at 8.
+    assert_eq!(responses(&plan("S,3,0,5,2")), [6]);
 }
 
 #[test]
@@ -52,21 +55,27 @@ fn deferrable_with_a_short_deadline() {
 
 #[test]
 fn polling_loses_its_budget_with_its_queue() {
-    assert_eq!(responses("T,3,6,2,6\nS,1,0,5,2\nA,5,1,1\nA,6,2,1\nR,30\n"), [1, 5]);
+    // 5/13: 1 for the second, 5 in document 01. The budget is lost at 5, and tick 6 would be idle.
+    assert_eq!(responses("T,3,6,2,6\nS,1,0,5,2\nA,5,1,1\nA,6,2,1\nR,30\n"), [1, 1]);
+    // With a row below that wants 6 and 7, the second has 8.
+    assert_eq!(responses("T,3,6,4,6\nS,1,0,5,2\nA,5,1,1\nA,6,2,1\nR,30\n"), [1, 3]);
 }
 
 #[test]
 fn row_above_a_sporadic_server() {
     let plan = |period: u32| format!("T,0,10,6,10\nS,3,1,{period},2\nA,0,7,4\nR,30\n");
+    // 5/13 has 10 for both. By the budget at 6 and 7, and, as it is late, at 8 and 9: 10 in document 01 too.
     assert_eq!(responses(&plan(5)), [10]);
-    assert_eq!(responses(&plan(6)), [18]);
+    // 18 in document 01. By the budget at 6 and 7, and the idle ticks 8 and 9.
+    assert_eq!(responses(&plan(6)), [10]);
 }
 
 // The cases below are not in document 01. Each is a rule that the marked cases alone would let be changed.
 
 #[test]
 fn polling_waits_for_the_rows_above() {
-    assert_eq!(responses("T,0,10,1,10\nS,1,1,5,2\nA,1,7,1\nR,10\n"), [1]);
+    // The budget outlasts tick 0; without it the row below would have tick 1.
+    assert_eq!(responses("T,0,10,1,10\nT,0,10,5,10\nS,1,1,5,2\nA,1,7,1\nR,10\n"), [1]);
 }
 
 #[test]
@@ -90,8 +99,8 @@ fn sporadic_next_replenishment_counts_from_begin() {
 
 #[test]
 fn sporadic_replenishes_when_rows_wake() {
-    // Spent at 0 and 1 with nothing open; a row opens at 3: the rest is served there and not at 10.
-    assert_eq!(responses("T,3,60,1,60\nS,3,0,10,2\nA,0,1,3\nR,20\n"), [4]);
+    // Spent at 0 and 1 with nothing open, tick 2 is idle; a row opens at 3: the budget is back, and the request goes before the row.
+    assert_eq!(responses("T,3,60,1,60\nS,3,0,10,2\nA,0,1,5\nR,20\n"), [5]);
 }
 
 #[test]

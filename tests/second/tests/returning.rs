@@ -34,9 +34,11 @@ fn held(state: &State) -> Vec<(u32, u32)> {
     state.returns.stretches[..state.returns.held as usize].iter().map(|stretch| (stretch.start, stretch.length)).collect()
 }
 
-/// One tick: whether a request had it.
+/// One tick: whether a request had it by the budget.
 fn served(state: &mut State) -> bool {
-    state.tick().unwrap().entry.kind == 2
+    let budget = budget_within(*state);
+    state.tick().unwrap();
+    state.service.budget < budget
 }
 
 /// The budget between steps 3 and 4 of the next tick.
@@ -96,8 +98,10 @@ fn admission_is_that_of_polling() {
 
 #[test]
 fn the_marked_row() {
-    // Served at 3 and 4, which come back at 8 and 9.
-    assert_eq!(responses("T,3,6,2,6\nS,4,0,5,2\nA,3,7,4\nR,30\n"), [7]);
+    // Served at 3 and 4, which come back at 8 and 9; tick 7 is idle (5/13), and 8 is served.
+    assert_eq!(responses("T,3,6,2,6\nS,4,0,5,2\nA,3,7,4\nR,30\n"), [6]);
+    // With a row that wants 7 too, 8 and 9 are served.
+    assert_eq!(responses("T,3,6,3,6\nS,4,0,5,2\nA,3,7,4\nR,30\n"), [7]);
 }
 
 #[test]
@@ -128,16 +132,16 @@ fn a_stretch_comes_back_tick_by_tick() {
 
 #[test]
 fn what_comes_back_serves_in_the_same_tick() {
-    // Served at 0, 1 and 2; nothing at 3 and 4; then what came back at 5, 6, 7.
-    assert_eq!(responses("T,9,60,1,60\nS,4,0,5,3\nA,0,1,3\nA,0,2,1\nA,0,3,2\nR,20\n"), [3, 6, 8]);
+    // Served at 0, 1 and 2; the row below has 3 and 4; then what came back at 5, 6, 7.
+    assert_eq!(responses("T,0,60,20,60\nS,4,0,5,3\nA,0,1,3\nA,0,2,1\nA,0,3,2\nR,20\n"), [3, 6, 8]);
 }
 
 #[test]
 fn the_budget_does_not_fall_while_the_server_idles() {
     // The sporadic server loses its second tick at 1 (marked.rs): this one has it still at 2.
     assert_eq!(responses("T,0,60,20,60\nS,4,0,10,2\nA,0,1,1\nA,2,2,1\nR,20\n"), [1, 1]);
-    // Nor with its queue, as a poller's.
-    assert_eq!(responses("T,3,6,2,6\nS,4,0,5,2\nA,5,1,1\nA,6,2,1\nR,30\n"), [1, 1]);
+    // Nor with its queue, as a poller's: it goes before the row at 6 too (marked.rs).
+    assert_eq!(responses("T,3,6,4,6\nS,4,0,5,2\nA,5,1,1\nA,6,2,1\nR,30\n"), [1, 1]);
 }
 
 #[test]
@@ -218,11 +222,12 @@ fn thirty_two_held_and_a_tick_that_would_open_another() {
     state.request(1, 9).unwrap();
     let before = state;
     assert!(!served(&mut state));
-    assert_eq!((state.returns, state.service, state.queue), (before.returns, before.service, before.queue));
+    assert_eq!((state.returns, state.service), (before.returns, before.service));
     // The row below has the tick instead.
     let mut open = before;
     open.left[0] = 1;
     assert_eq!(open.tick().unwrap().entry, Entry { kind: 1, id: 0, drops: 0 });
+    assert_eq!((open.returns, open.service, open.queue), (before.returns, before.service, before.queue));
 }
 
 #[test]
@@ -231,7 +236,7 @@ fn thirty_two_held_and_the_last_ends_here() {
     state.request(1, 1).unwrap();
     assert!(served(&mut state));
     assert_eq!(held(&state), [singles(100, 31), vec![(162, 2)]].concat());
-    // Not in the tick after a tick without a request.
+    // Not in the tick after a tick without service.
     state.clock = 165;
     state.request(1, 1).unwrap();
     assert!(!served(&mut state));
@@ -265,9 +270,9 @@ fn a_return_that_shortens_frees_no_place() {
 
 #[test]
 fn blocked_from_a_fresh_state() {
-    // Unit requests at 0, 2, .. 64, P 66: the 33rd waits from 64 until tick 0 comes back, at 66.
+    // Unit requests at 0, 2, .. 64, P 66: the 33rd waits from 64, where the row below opens, until tick 0 comes back, at 66.
     let arrivals: String = (0..33).map(|i| format!("A,{},{i},1\n", 2 * i)).collect();
-    let plan = |period: u32| format!("T,100,200,1,200\nS,4,0,{period},33\n{arrivals}R,100\n");
+    let plan = |period: u32| format!("T,64,200,9,200\nS,4,0,{period},33\n{arrivals}R,100\n");
     assert_eq!(responses(&plan(66)), [vec![1; 32], vec![3]].concat());
     assert_eq!(responses(&plan(65)), [vec![1; 32], vec![2]].concat());
     // At 64 tick 0 comes back before the server is asked.

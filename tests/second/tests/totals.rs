@@ -88,8 +88,10 @@ fn refused_plans() {
 
 #[test]
 fn many_ticks() {
-    // Of every ten ticks the row has three and the request one.
-    ends("T,0,10,3,10\nS,2,0,10,1\nA,0,7,60000\nR,5000\n", "E,5000,3000,1500,500,0");
+    // Of every ten ticks the row has three and the request one by the budget; it has the idle ones too (5/13).
+    ends("T,0,10,3,10\nS,2,0,10,1\nA,0,7,60000\nR,5000\n", "E,5000,0,1500,3500,0");
+    // Without it all but the row's are idle.
+    ends("T,0,10,3,10\nS,2,0,10,1\nR,5000\n", "E,5000,3500,1500,0,0");
     // Two jobs are lost in every second tick, the first in tick 2.
     ends("T,0,2,2,2\nT,0,2,1,2\nT,0,2,1,2\nS,0,3,0,0\nR,5000\n", "E,5000,0,5000,0,4998");
 }

@@ -8,8 +8,6 @@ use lib.Dec.{eqb, eqb·zero-suc, eqb·suc-zero, eqb·suc-suc}
 use lib.ListN.{length, take, getD, set}
 use borrow.Author.Tests.{ltb-true}
 use Rattle.lists.specs.Tests.{never}
-use Rattle.server.specs.Kind.{Kind}
-use Rattle.server.specs.Server.{servesIdle}
 use Rattle.queue.specs.declared.Request.{Request}
 use Rattle.table.specs.declared.Task.{Task}
 use Rattle.rules.specs.declared.Turn.{Turn}
@@ -36,10 +34,10 @@ first-works (l ∷ ls) e i = go (isOpen l) refl e i (λ q j. first-works ls q j)
     go false q e (suc i) ih = rw (eqb·suc-suc (firstOpen ls) i) (ih e i)
 
 -- the task that has the tick loses one tick of work, and no other does
-pub task-step : (k : Kind) (s : ℕ) (waiting x : Bool) (ls : List ℕ) (q : List Request) (d i : ℕ) →
-    let turn : Turn = choose k (anyOpen (take s ls)) (anyOpen ls) waiting x (firstOpen ls) in
+pub task-step : (s : ℕ) (waiting x : Bool) (ls : List ℕ) (q : List Request) (d i : ℕ) →
+    let turn : Turn = choose (anyOpen (take s ls)) (anyOpen ls) waiting x (firstOpen ls) in
     cond (byTask i (entryBy (occupantOf turn q) d)) 1 0 + nth (workedTasks turn ls) i ≡ nth ls i
-task-step k s waiting x ls q d i = go (anyOpen (take s ls)) (some s ls) x (anyOpen ls) (λ o. first-works ls o i) (servesIdle k && waiting)
+task-step s waiting x ls q d i = go (anyOpen (take s ls)) (some s ls) x (anyOpen ls) (λ o. first-works ls o i) waiting
   where
     some : (s : ℕ) (ls : List ℕ) → anyOpen (take s ls) ≡ true → anyOpen ls ≡ true
     some zero ls e = never refl e
@@ -61,19 +59,16 @@ task-step k s waiting x ls q d i = go (anyOpen (take s ls)) (some s ls) x (anyOp
     go false h false false f true = omega arith
     go false h false false f false = omega arith
 
--- under a kind that serves no idle tick, a request has the tick where the server serves by its budget
-pub request-step : (k : Kind) (above busy waiting x : Bool) (first d : ℕ) (q : List Request) → servesIdle k ≡ false →
-    byRequest (entryBy (occupantOf (choose k above busy waiting x first) q) d) ≡ (not above && x)
-request-step k above busy waiting x first d q h = go above x busy (servesIdle k) h waiting
+-- where the server may serve, a request has the tick unless a task above is open
+pub request-step : (above busy waiting x : Bool) (first d : ℕ) (q : List Request) →
+    (byRequest (entryBy (occupantOf (choose above busy waiting x first) q) d) && x) ≡ (not above && x)
+request-step true busy waiting x first d q = refl
+request-step false busy waiting true first d q = refl
+request-step false busy waiting false first d q = none (byRequest (entryBy (occupantOf (choose false busy waiting false first) q) d))
   where
-    go : (above e busy idle : Bool) → idle ≡ false → (waiting : Bool) →
-        byRequest (entryBy (occupantOf (cond above (Turn.Task first) (cond e Turn.Budget
-        (cond busy (Turn.Task first) (cond (idle && waiting) Turn.Spare Turn.Nobody)))) q) d) ≡ (not above && e)
-    go true e busy idle h waiting = refl
-    go false true busy idle h waiting = refl
-    go false false true idle h waiting = refl
-    go false false false true h waiting = never h refl
-    go false false false false h waiting = refl
+    none : (b : Bool) → b && false ≡ false
+    none true = refl
+    none false = refl
 
 -- what is left of each task after steps 1 and 2
 pub opened-nth : (t : ℕ) (xs : List Task) (ls : List ℕ) → length xs ≤ length ls → (i : ℕ) (d : Task) → i < length xs → nth (openedAll t xs ls) i

@@ -48,7 +48,7 @@ pub left-next : (p : TaskSet) (m : ℕ → Model) (N : ℕ) → Run p m N → (i
     cond (byTask i (entryOf (tick p (m u)))) 1 0 + nth (m (suc u) .lefts) i ≡ opened u (taskOf p i) (nth (m u .lefts) i)
 left-next p m N run i b u h =
     ap (λ (n : ℕ). cond (byTask i (entryOf (tick p (m u)))) 1 0 + n) (run .lefts u h i b)
-    ∙ task-step (kindAt p) (p .server .place) (waits (m u .queue)) (mayAt p (m u)) (leftsAt p (m u)) (m u .queue)
+    ∙ task-step (p .server .place) (waits (m u .queue)) (mayAt p (m u)) (leftsAt p (m u)) (m u .queue)
     (dropped (m u .clock) (p .tasks) (m u .lefts)) i
     ∙ opened-nth (m u .clock) (p .tasks) (m u .lefts) (run .covers u (omega arith)) i noTask b
     ∙ ap (λ (t : ℕ). opened t (taskOf p i) (nth (m u .lefts) i)) (run .clocks u (omega arith))

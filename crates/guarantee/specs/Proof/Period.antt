@@ -15,7 +15,6 @@ use mathlib.Core.List.{List}
 use Rattle.server.specs.declared.Server.{Server}
 use Rattle.server.specs.Kind.{Kind, background, polling, deferrable, sporadic, returning}
 use Rattle.server.specs.Periodic.{periodicRefill}
-use Rattle.server.specs.Server.{servesIdle}
 use Rattle.server.specs.declared.Stretch.{Stretch}
 use Rattle.server.specs.Whole.{Whole, roomFor, replenishWhole, consumeWhole}
 use Rattle.server.specs.SupplyReturning.{seenWhole}
@@ -38,13 +37,6 @@ use Rattle.guarantee.specs.Guarantee.{exact}
 use Rattle.guarantee.specs.Proof.Entries.{request-step}
 
 -- ---- one clause for each kind
-exact-idle : (k : Kind) → exact k ≡ true → servesIdle k ≡ false
-exact-idle background e = never refl e
-exact-idle polling e = refl
-exact-idle deferrable e = refl
-exact-idle sporadic e = never refl e
-exact-idle returning e = never refl e
-
 -- step 3, and step 5 while requests wait
 exact-refill : (k : Kind) → exact k ≡ true → (s : Server) (x : Whole) (t : ℕ) (busy : Bool) → replenishWhole k s x t busy .part .budget
     ≡ periodicRefill s t (x .part .budget)
@@ -84,9 +76,9 @@ module _ (p : TaskSet) (m : ℕ → Model) (N : ℕ) (run : Run p m N) (e : exac
   abbrev i : ℕ
   i = seat (p .server .place) (p .tasks)
 
-  -- a request has tick u
-  abbrev pub hasRequest : ℕ → Bool
-  hasRequest u = byRequest (entryOf (tick p (m u)))
+  -- a request has tick u by the budget
+  abbrev pub served : ℕ → Bool
+  served u = byRequest (entryOf (tick p (m u))) && ltb 0 (serverAt p (m u) .part .budget)
 
   -- the budget inside tick u
   abbrev inside : ℕ → ℕ
@@ -103,13 +95,16 @@ module _ (p : TaskSet) (m : ℕ → Model) (N : ℕ) (run : Run p m N) (e : exac
       ∙ exact-backlog (kindAt p) e (p .server) (m u .clock) (busyAt p (m u)) (not (aboveAt p (m u))) (bitsOf p (m u)) (serverAt p (m u)) (w .0) (ap not (w .1))
       ∙ ap (λ (n : ℕ). cond (not (aboveAt p (m u))) (n - 1) n) (inside-is u (omega arith))
 
-  serves : (u : ℕ) → u ≤ N → Backlog p (m u) → hasRequest u ≡ (not (aboveAt p (m u)) && ltb 0 (inside u))
+  -- with requests waiting, it may serve where b is above 0
+  may-is : (u : ℕ) → Backlog p (m u) → mayAt p (m u) ≡ ltb 0 (serverAt p (m u) .part .budget)
+  may-is u w = ap₂ (λ (r a : Bool). r && (a && ltb 0 (serverAt p (m u) .part .budget))) (exact-room (kindAt p) e (m u .clock) (serverAt p (m u) .returns)) (w .0)
+
+  serves : (u : ℕ) → u ≤ N → Backlog p (m u) → served u ≡ (not (aboveAt p (m u)) && ltb 0 (inside u))
   serves u h w =
-      request-step (kindAt p) (aboveAt p (m u)) (busyAt p (m u)) (waits (m u .queue)) (mayAt p (m u)) (firstOpen (leftsAt p (m u)))
-      (dropped (m u .clock) (p .tasks) (m u .lefts)) (m u .queue) (exact-idle (kindAt p) e)
-      ∙ ap (λ (r : Bool). not (aboveAt p (m u)) && (r && (waits (m u .queue) && ltb 0 (serverAt p (m u) .part .budget))))
-      (exact-room (kindAt p) e (m u .clock) (serverAt p (m u) .returns))
-      ∙ ap₂ (λ (a : Bool) (n : ℕ). not (aboveAt p (m u)) && (a && ltb 0 n)) (w .0) (inside-is u h)
+      ap (λ (b : Bool). byRequest (entryOf (tick p (m u))) && b) (sym (may-is u w))
+      ∙ request-step (aboveAt p (m u)) (busyAt p (m u)) (waits (m u .queue)) (mayAt p (m u)) (firstOpen (leftsAt p (m u)))
+      (dropped (m u .clock) (p .tasks) (m u .lefts)) (m u .queue)
+      ∙ ap (λ (b : Bool). not (aboveAt p (m u)) && b) (may-is u w ∙ ap (ltb 0) (inside-is u h))
 
   -- what stands above the server takes tick u where a task above is open
   above-is : (u : ℕ) → u ≤ N → above (items p) (reads p m) i u ≡ aboveAt p (m u)
@@ -122,14 +117,14 @@ module _ (p : TaskSet) (m : ℕ → Model) (N : ℕ) (run : Run p m N) (e : exac
       ∙ ap (λ (t : ℕ). aboveAt p (record { lefts = m u .lefts; queue = m u .queue; server = m u .server; clock = t })) (sym (run .clocks u h))
 
   -- it serves in each free tick until its budget, z inside tick t, is gone
-  served : (n t z : ℕ) → t + n ≤ N → (0 < n → inside t ≡ z) → ((u : ℕ) → t < u → u < t + n → due u 0 P ≡ false) →
+  spent : (n t z : ℕ) → t + n ≤ N → (0 < n → inside t ≡ z) → ((u : ℕ) → t < u → u < t + n → due u 0 P ≡ false) →
       ((u : ℕ) → t ≤ u → u < t + n → Backlog p (m u)) →
-      (tally hasRequest t n ≤ z) × (z ≤ frees (items p) (reads p m) i t n → tally hasRequest t n ≡ z)
+      (tally served t n ≤ z) × (z ≤ frees (items p) (reads p m) i t n → tally served t n ≡ z)
   unfolding frees
-  served zero t z l h d w = (zero-le, λ k. omega arith)
-  served (suc n) t z l h d w =
+  spent zero t z l h d w = (zero-le, λ k. omega arith)
+  spent (suc n) t z l h d w =
       step (aboveAt p (m t)) refl (ltb 0 z) refl
-      (served n (suc t) (cond (not (aboveAt p (m t))) (z - 1) z) (omega arith) (λ q. same (due (suc t) 0 P) (d (suc t) (omega arith) (omega arith)) ∙ next)
+      (spent n (suc t) (cond (not (aboveAt p (m t))) (z - 1) z) (omega arith) (λ q. same (due (suc t) 0 P) (d (suc t) (omega arith) (omega arith)) ∙ next)
       (λ u a b. d u (omega arith) (omega arith)) (λ u a b. w u (omega arith) (omega arith)))
     where
       now : Backlog p (m t)
@@ -145,16 +140,16 @@ module _ (p : TaskSet) (m : ℕ → Model) (N : ℕ) (run : Run p m N) (e : exac
       next : m (suc t) .server .part .budget ≡ cond (not (aboveAt p (m t))) (z - 1) z
       next = budget-next t (omega arith) now ∙ ap (λ (k : ℕ). cond (not (aboveAt p (m t))) (k - 1) k) is
 
-      hit : hasRequest t ≡ (not (aboveAt p (m t)) && ltb 0 z)
+      hit : served t ≡ (not (aboveAt p (m t)) && ltb 0 z)
       hit = serves t (omega arith) now ∙ ap (λ (k : ℕ). not (aboveAt p (m t)) && ltb 0 k) is
 
       Goal : Bool → Bool → Type 0
       Goal h a =
-          (cond h 1 0 + tally hasRequest (suc t) n ≤ z) × (z ≤ cond a 0 1 + frees (items p) (reads p m) i (suc t) n → cond h 1 0 + tally hasRequest (suc t) n
+          (cond h 1 0 + tally served (suc t) n ≤ z) × (z ≤ cond a 0 1 + frees (items p) (reads p m) i (suc t) n → cond h 1 0 + tally served (suc t) n
           ≡ z)
 
       by : (a o : Bool) → ltb 0 z ≡ o →
-          (tally hasRequest (suc t) n ≤ cond (not a) (z - 1) z) × (cond (not a) (z - 1) z ≤ frees (items p) (reads p m) i (suc t) n → tally hasRequest (suc t) n
+          (tally served (suc t) n ≤ cond (not a) (z - 1) z) × (cond (not a) (z - 1) z ≤ frees (items p) (reads p m) i (suc t) n → tally served (suc t) n
           ≡ cond (not a) (z - 1) z) →
           Goal (not a && o) a
       by true o q ih = (omega (arith, ih .0), λ k. omega (arith, ih .1 (omega arith)))
@@ -162,18 +157,18 @@ module _ (p : TaskSet) (m : ℕ → Model) (N : ℕ) (run : Run p m N) (e : exac
       by false false q ih = (omega (arith, ih .0), λ k. omega (arith, ih .0, ltb-false 0 z q))
 
       step : (a : Bool) → aboveAt p (m t) ≡ a → (o : Bool) → ltb 0 z ≡ o →
-          (tally hasRequest (suc t) n ≤ cond (not (aboveAt p (m t))) (z - 1) z)
-          × (cond (not (aboveAt p (m t))) (z - 1) z ≤ frees (items p) (reads p m) i (suc t) n → tally hasRequest (suc t) n
+          (tally served (suc t) n ≤ cond (not (aboveAt p (m t))) (z - 1) z)
+          × (cond (not (aboveAt p (m t))) (z - 1) z ≤ frees (items p) (reads p m) i (suc t) n → tally served (suc t) n
           ≡ cond (not (aboveAt p (m t))) (z - 1) z) →
-          Goal (hasRequest t) (above (items p) (reads p m) i t)
+          Goal (served t) (above (items p) (reads p m) i t)
       step a qa o qo ih = rw (hit, above-is t (omega arith), qa, qo) (by a o qo (rw (← qa) ih))
 
   -- R is the server's own bound, and P divides a
   pub exactly : SoundAll (items p) → Plain (items p) → (R : ℕ) → 0 < R → R ≤ P → B + itemsDemand (take i (items p)) R ≤ R → (a : ℕ) → due a 0 P ≡ true →
       a + P ≤ N →
-      ((u : ℕ) → a ≤ u → u < a + P → Backlog p (m u)) → tally hasRequest a P ≡ B
+      ((u : ℕ) → a ≤ u → u < a + P → Backlog p (m u)) → tally served a P ≡ B
   exactly sound plain R some soon meets a d l w =
-      served P a B l (λ _. full d) between w .1 (enough-free (items p) (reads p m) i sound plain B P R some soon meets a)
+      spent P a B l (λ _. full d) between w .1 (enough-free (items p) (reads p m) i sound plain B P R some soon meets a)
     where
       full : due a 0 P ≡ true → inside a ≡ B
       full d = ap (λ (c : Bool). cond c B (m a .server .part .budget)) d

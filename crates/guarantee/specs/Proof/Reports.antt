@@ -2,9 +2,10 @@
 use Prim.Native.Nat.{ℕ, zero, suc, _+_, _≤_, _<_}
 use native.Mathlib.Omega.{arith}
 use native.Mathlib.Decide.{decLe}
-use mathlib.Core.Path.{_≡_, refl, sym, ap, _∙_}
-use mathlib.Core.Bool.{Bool, true}
+use mathlib.Core.Path.{_≡_, refl, sym, ap, ap₂, _∙_}
+use mathlib.Core.Bool.{Bool, true, _&&_}
 use mathlib.Core.List.{List, [], _∷_, map}
+use lib.Dec.{ltb}
 use lib.ListN.{length, getD, length-map}
 use Rattle.lists.specs.Stretch.{stretch, howMany, tally, tally-stretch, tally-same}
 use Rattle.queue.specs.declared.Request.{Request}
@@ -16,13 +17,13 @@ use Rattle.table.specs.Limits.{maxTasks}
 use Rattle.table.specs.Model.{TaskSet, taskSetOf, modelOf}
 use Rattle.table.specs.State.{freshState}
 use Rattle.rules.specs.declared.Entry.{Entry}
-use Rattle.rules.specs.Tick.{Tick, tick}
+use Rattle.rules.specs.Tick.{serverAt, Tick, tick}
 use Rattle.rules.specs.Calls.{ticked, stateAfter, entryOf}
-use Rattle.guarantee.specs.Calls.{Call, final, RanTick, ticks, noTick, tickAt, begins, stateBefore, clockAfter}
-use Rattle.guarantee.specs.Guarantee.{NeverEmpty}
+use Rattle.guarantee.specs.Calls.{Call, final, RanTick, ticks, noTick, tickAt, begins, stateBefore, clockAfter, byRequest}
+use Rattle.guarantee.specs.Guarantee.{NeverEmpty, byBudgetIn}
 use Rattle.guarantee.specs.Proof.Period.{Backlog}
 use Rattle.guarantee.specs.Proof.Lift.{ranAt, reported, linked-last}
-use Rattle.guarantee.specs.Proof.Played.{N, clock-is, ticked-is, played}
+use Rattle.guarantee.specs.Proof.Played.{N, table-is, clock-is, ticked-is, played}
 
 map-at : {A B : Type 0} (f : A → B) (xs : List A) (u : ℕ) (d : B) (e : A) → u < length xs → getD (map f xs) u d ≡ f (getD xs u e)
 map-at f [] u d e h = absurd (omega arith)
@@ -56,6 +57,12 @@ module _ (t : Table) (calls : List Call) where
 
   pub entry-is : (u : ℕ) → u < N t calls → tickAt t calls u .entry ≡ entryOf (tick p (modelOf (at u)))
   entry-is u h = ap (λ (x : RanTick). x .entry) (tick-is u h) ∙ ap entryOf (ticked-is t calls u (omega arith))
+
+  -- a request has tick u, with b above 0 at step 4
+  pub served-is : (u : ℕ) → u < N t calls →
+      byBudgetIn t calls u ≡ (byRequest (entryOf (tick p (modelOf (at u)))) && ltb 0 (serverAt p (modelOf (at u)) .part .budget))
+  served-is u h =
+      ap₂ (λ (e : Entry) (y : Table). byRequest e && ltb 0 (serverAt (taskSetOf y) (modelOf (at u)) .part .budget)) (entry-is u h) (table-is t calls u (omega arith))
 
   -- a count over the reports is a count over the run
   pub counted : (f : Entry → Bool) (r n : ℕ) → r + n ≤ N t calls →

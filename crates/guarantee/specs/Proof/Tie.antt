@@ -10,7 +10,6 @@ use Rattle.lists.specs.Tests.{never}
 use Rattle.server.specs.declared.Server.{Server}
 use Rattle.server.specs.declared.Seen.{Seen}
 use Rattle.server.specs.Kind.{Kind}
-use Rattle.server.specs.Server.{servesIdle}
 use Rattle.server.specs.Whole.{Whole, replenishWhole, eligibleWhole, consumeWhole}
 use Rattle.server.specs.SupplyReturning.{seenWhole}
 use Rattle.server.specs.Account.{Bits}
@@ -174,9 +173,9 @@ lowered-takes (suc s) (l ∷ ls) = go (isOpen l) refl (lowered-takes s ls)
         out false = refl
 
 -- the tasks after step 5
-worked : (k : Kind) (s : ℕ) (waiting may : Bool) (ls : List ℕ) →
-    workedTasks (choose k (anyOpen (take s ls)) (anyOpen ls) waiting may (firstOpen ls)) ls ≡ lowered s true may ls
-worked k s waiting may ls = go (anyOpen (take s ls)) refl may (anyOpen ls) refl (servesIdle k && waiting)
+worked : (s : ℕ) (waiting may : Bool) (ls : List ℕ) →
+    workedTasks (choose (anyOpen (take s ls)) (anyOpen ls) waiting may (firstOpen ls)) ls ≡ lowered s true may ls
+worked s waiting may ls = go (anyOpen (take s ls)) refl may (anyOpen ls) refl waiting
   where
     takes : (above : Bool) → anyOpen (take s ls) ≡ above → (e : Bool) → lowered s true e ls ≡ cond (not above && e) ls (lowerFirst true ls)
     takes true q true = lowered-takes s ls ∙ ap (λ (b : Bool). cond b (lowerFirst true ls) ls) q
@@ -207,9 +206,8 @@ offer-above (suc s) free (l ∷ ls) = offer-above s (free && not (isOpen l)) ls 
     go false b c = refl
 
 -- it serves by its budget where it is offered the processor and takes it
-pub serves-by : (k : Kind) (above busy waiting may : Bool) (first : ℕ) → byBudget (choose k above busy waiting may first)
-    ≡ (not above && may)
-serves-by k above busy waiting may first = go above may busy (servesIdle k && waiting)
+pub serves-by : (above busy waiting may : Bool) (first : ℕ) → byBudget (choose above busy waiting may first) ≡ (not above && may)
+serves-by above busy waiting may first = go above may busy waiting
   where
     go : (above e busy idle : Bool) →
         byBudget (cond above (Turn.Task first) (cond e Turn.Budget (cond busy (Turn.Task first) (cond idle Turn.Spare Turn.Nobody)))) ≡ (not above && e)
@@ -222,7 +220,7 @@ serves-by k above busy waiting may first = go above may busy (servesIdle k && wa
 -- what step 5 shows the server
 pub sees : (p : TaskSet) (m : Model) → seenAt p m ≡ seenWhole (kindAt p) (m .clock) (busyAt p m) (not (aboveAt p m)) (bitsOf p m) (serverAt p m)
 sees p m =
-    rw (serves-by (kindAt p) (aboveAt p m) (busyAt p m) (waits (m .queue)) (mayAt p m) (firstOpen (leftsAt p m))) (go (aboveAt p m))
+    rw (serves-by (aboveAt p m) (busyAt p m) (waits (m .queue)) (mayAt p m) (firstOpen (leftsAt p m))) (go (aboveAt p m))
   where
     go : (above : Bool) →
         (record {
@@ -244,7 +242,7 @@ unfolding tickItems
 tick-tie p m h =
     ap₂ (λ (ls : List ℕ) (e : Seen). insertCell (p .server .place) (p .tasks) (server (kindAt p) (p .server)) (nth ls)
     (consumeWhole (kindAt p) (p .server) (serverAt p m) e))
-    (worked (kindAt p) (p .server .place) (waits (m .queue)) (mayAt p m) (leftsAt p m))
+    (worked (p .server .place) (waits (m .queue)) (mayAt p m) (leftsAt p m))
     (sees p m ∙ ap (λ (f : Bool). seenWhole (kindAt p) (m .clock) (busyAt p m) f (bitsOf p m) (serverAt p m)) (sym (offer-above (p .server .place) true (leftsAt p m))))
     ∙ insert-chain (kindAt p) (p .server) (p .server .place) (p .tasks) (m .lefts) (m .server) h (m .clock) (busyAt p m) true (bitsOf p m)
     ∙ ap (λ (b : Bool). chain (items p) (m .clock) b true (λ _. bitsOf p m) (cells p m))

@@ -7,6 +7,7 @@ use std::time::Instant;
 
 use differential::abi::Calls;
 use differential::call::{compare, random_call, shrink, table_call, Call};
+use differential::idle;
 use differential::open::find;
 use differential::program::{all_reached, count_and_seed, write, Seen};
 use differential::random::Random;
@@ -42,8 +43,8 @@ fn main() {
         list += 1;
     }
     println!("calls: {made} calls in {list} lists, all alike in {:.1} s", start.elapsed().as_secs_f64());
-    let clauses = CLAUSES.map(unfit_words);
-    let to_reach: Vec<&str> = SHOWN.into_iter().chain(clauses.iter().map(String::as_str)).chain([OTHER_KINDS]).collect();
+    let words: Vec<String> = CLAUSES.map(unfit_words).into_iter().chain(idle::shown_by_calls()).collect();
+    let to_reach: Vec<&str> = SHOWN.into_iter().chain(words.iter().map(String::as_str)).chain([OTHER_KINDS]).collect();
     if !all_reached("calls", &seen, &to_reach, count, ENOUGH) {
         exit(1);
     }
@@ -94,6 +95,7 @@ fn note(seen: &mut Seen, state: &State, call: &Call) {
     }
     if matches!(call, Call::Tick | Call::Run { .. }) {
         shown(state).into_iter().for_each(|what| add(what.to_string()));
+        idle::shown(state).into_iter().for_each(add);
     }
 }
 

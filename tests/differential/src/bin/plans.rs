@@ -9,6 +9,7 @@ use std::sync::atomic::{AtomicBool, Ordering};
 use std::thread;
 use std::time::Instant;
 
+use differential::idle;
 use differential::padding::{self, padded_form, plain};
 use differential::plan::plan;
 use differential::program::{all_reached, count_and_seed, write, Seen};
@@ -16,7 +17,6 @@ use differential::random::Random;
 use differential::returns;
 use differential::shrink::shrink;
 use second::plan::{read, Plan};
-use second::table::RETURNING;
 use second::State;
 
 const KINDS: [&str; 5] = ["kind 0", "kind 1", "kind 2", "kind 3", "kind 4"];
@@ -27,7 +27,7 @@ const PAIRS: [&str; 2] = ["padded pair accepted", "padded pair refused"];
 /// One plan in so many makes a pair, if it can.
 const PAIRED: u64 = 3;
 
-/// From so many plans on, each kind, all that a tick of kind 4 and padded numbers can show, and such pairs are to be reached.
+/// From so many plans on, each kind, all that a tick of kind 4, an idle tick and padded numbers can show, and such pairs are to be reached.
 const ENOUGH: u64 = 5_000;
 
 fn main() {
@@ -43,7 +43,9 @@ fn main() {
         }
         Ok(seen) => {
             println!("plans: all alike in {:.1} s", start.elapsed().as_secs_f64());
-            let to_reach: Vec<&str> = KINDS.into_iter().chain(returns::SHOWN).chain(padding::SHOWN).chain(PAIRS).collect();
+            let of_idle = idle::shown_by_plans();
+            let of_idle = of_idle.iter().map(String::as_str);
+            let to_reach: Vec<&str> = KINDS.into_iter().chain(returns::SHOWN).chain(of_idle).chain(padding::SHOWN).chain(PAIRS).collect();
             if !all_reached("plans", &seen, &to_reach, count, ENOUGH) {
                 exit(1);
             }
@@ -121,16 +123,16 @@ fn note(seen: &mut Seen, output: &[u8]) {
     }
 }
 
-/// Counts the kind of a plan that is not refused, and what its ticks show of kind 4, once for each.
+/// Counts the kind of a plan that is not refused, and what its ticks show of kind 4 and of idle ticks, once for each.
 fn note_kind(seen: &mut Seen, text: &[u8]) {
     let Ok(plan) = read(text) else { return };
-    let kind = plan.table.server.kind;
-    let mut met = BTreeSet::from([KINDS[kind as usize]]);
-    if kind == RETURNING {
-        replay(&plan, |before| met.extend(returns::shown(before)));
-    }
+    let mut met = BTreeSet::from([KINDS[plan.table.server.kind as usize].to_string()]);
+    replay(&plan, |before| {
+        met.extend(returns::shown(before).into_iter().map(String::from));
+        met.extend(idle::shown(before));
+    });
     for what in met {
-        *seen.entry(what.to_string()).or_default() += 1;
+        *seen.entry(what).or_default() += 1;
     }
 }
 

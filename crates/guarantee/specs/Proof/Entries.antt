@@ -11,7 +11,7 @@ use Rattle.lists.specs.Tests.{never}
 use Rattle.queue.specs.declared.Request.{Request}
 use Rattle.table.specs.declared.Task.{Task}
 use Rattle.rules.specs.declared.Turn.{Turn}
-use Rattle.rules.specs.Tick.{isOpen, anyOpen, opened, openedAll, firstOpen, choose, workedTasks, occupantOf}
+use Rattle.rules.specs.Tick.{isOpen, anyOpen, opened, openedAll, firstOpen, choose, byBudget, workedTasks, occupantOf}
 use Rattle.rules.specs.Calls.{entryBy}
 use Rattle.guarantee.specs.Calls.{byTask, byRequest}
 use Rattle.guarantee.specs.Proof.Tie.{nth}
@@ -69,6 +69,17 @@ request-step false busy waiting false first d q = none (byRequest (entryBy (occu
     none : (b : Bool) → b && false ≡ false
     none true = refl
     none false = refl
+
+-- where b and a waiting request alone decide whether the server may serve, a request has the tick with b above 0 just by the budget
+pub budget-step : (above busy waiting some : Bool) (first d : ℕ) (q : List Request) →
+    let turn : Turn = choose above busy waiting (waiting && some) first in
+    (byRequest (entryBy (occupantOf turn q) d) && some) ≡ byBudget turn
+budget-step true busy waiting some first d q = refl
+budget-step false busy true true first d q = refl
+budget-step false true true false first d q = refl
+budget-step false false true false first d q = refl
+budget-step false true false some first d q = refl
+budget-step false false false some first d q = refl
 
 -- what is left of each task after steps 1 and 2
 pub opened-nth : (t : ℕ) (xs : List Task) (ls : List ℕ) → length xs ≤ length ls → (i : ℕ) (d : Task) → i < length xs → nth (openedAll t xs ls) i

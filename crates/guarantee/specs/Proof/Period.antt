@@ -23,7 +23,7 @@ use Rattle.server.specs.SupplyPolling.{polling-backlog}
 use Rattle.server.specs.SupplyDeferrable.{deferrable-backlog}
 use Rattle.queue.specs.Queue.{waits}
 use Rattle.table.specs.Model.{TaskSet, Model}
-use Rattle.rules.specs.Tick.{dropped, firstOpen, kindAt, leftsAt, aboveAt, busyAt, serverAt, mayAt, tick}
+use Rattle.rules.specs.Tick.{dropped, firstOpen, byBudget, kindAt, leftsAt, aboveAt, busyAt, serverAt, mayAt, turnAt, tick}
 use Rattle.rules.specs.Calls.{entryOf}
 use Rattle.guarantee.specs.Proof.Items.{server, Cells, taken, someOpen, states, itemsDemand}
 use Rattle.guarantee.specs.Proof.Chain.{SoundAll}
@@ -34,7 +34,7 @@ use Rattle.guarantee.specs.Proof.Places.{seat, seat-taken}
 use Rattle.guarantee.specs.Proof.Run.{Run, reads, run-states}
 use Rattle.guarantee.specs.Calls.{byRequest}
 use Rattle.guarantee.specs.Guarantee.{exact}
-use Rattle.guarantee.specs.Proof.Entries.{request-step}
+use Rattle.guarantee.specs.Proof.Entries.{request-step, budget-step}
 
 -- ---- one clause for each kind
 -- step 3, and step 5 while requests wait
@@ -61,6 +61,14 @@ exact-room polling e t us = refl
 exact-room deferrable e t us = refl
 exact-room sporadic e t us = never refl e
 exact-room returning e t us = never refl e
+
+-- a request has a tick with b above 0 just where the rules give it by the budget
+pub served-turn : (p : TaskSet) (m : Model) → exact (kindAt p) ≡ true →
+    (byRequest (entryOf (tick p m)) && ltb 0 (serverAt p m .part .budget)) ≡ byBudget (turnAt p m)
+served-turn p m e =
+    rw (exact-room (kindAt p) e (m .clock) (serverAt p m .returns))
+    (budget-step (aboveAt p m) (busyAt p m) (waits (m .queue)) (ltb 0 (serverAt p m .part .budget)) (firstOpen (leftsAt p m))
+    (dropped (m .clock) (p .tasks) (m .lefts)) (m .queue))
 
 -- requests wait as a tick begins and as it ends
 abbrev pub Backlog : TaskSet → Model → Type 0

@@ -1,11 +1,12 @@
 -- The guarantee's hypothesis can be met under each kind of server by a table whose requests load it, and a table that is not admitted
 -- can drop. Of request 2/13: what tasks above the server do not notice under each kind, and that a task below does. All by computation.
-use Prim.Native.Nat.{ℕ, zero, suc}
+use Prim.Native.Nat.{ℕ, zero, suc, _+_, _-_, _≤_, _<_}
 use native.Mathlib.Omega.{arith}
-use mathlib.Core.Path.{_≡_, refl}
+use mathlib.Core.Path.{_≡_, refl, ap}
 use mathlib.Core.Bool.{Bool, true, false, cond, _&&_}
 use mathlib.Core.List.{List, [], _∷_, map}
 use lib.Dec.{ltb}
+use borrow.Author.Tests.{ltb-true}
 use lib.ListN.{length, replicate}
 use Rattle.lists.specs.Lists.{overlay, all}
 use Rattle.lists.specs.Stretch.{stretch, howMany, tally}
@@ -13,8 +14,8 @@ use Rattle.table.specs.declared.Table.{Table}
 use Rattle.bounds.specs.Admission.{admissionCall}
 use Rattle.rules.specs.declared.Entry.{Entry}
 use Rattle.rules.specs.Play.{task, server, table}
-use Rattle.guarantee.specs.Calls.{Call, request, tick, run, RanTick, ticks, clockAfter, hasTask, hasRequest}
-use Rattle.guarantee.specs.Guarantee.{boundAt, byBudgetIn, Guarantee}
+use Rattle.guarantee.specs.Calls.{Call, request, tick, run, RanTick, ticks, tickAt, clockAfter, hasTask, hasRequest}
+use Rattle.guarantee.specs.Guarantee.{boundAt, Loaded, byBudgetIn, Guarantee}
 use Rattle.guarantee.specs.Unnoticed.{acceptedTicks, runsIn, droppedIn, Unnoticed}
 use Rattle.guarantee.specs.Kept.{guarantee, unnoticed}
 
@@ -65,6 +66,29 @@ served = refl
 given : map (λ (k : ℕ). howMany hasRequest (stretch 5 5 (ticks (marked k) load))) (1 ∷ 2 ∷ []) ≡ 4 ∷ 4 ∷ []
 unfolding overlay
 given = refl
+
+-- under polling this period is one that demand 3 speaks of, and the theorem promises both counts of it
+waits-after : (k : ℕ) → k < 5 → 0 < tickAt (marked 1) load (5 + k) .after
+unfolding overlay
+waits-after zero h = ltb-true 0 _ refl
+waits-after (suc zero) h = ltb-true 0 _ refl
+waits-after (suc (suc zero)) h = ltb-true 0 _ refl
+waits-after (suc (suc (suc zero))) h = ltb-true 0 _ refl
+waits-after (suc (suc (suc (suc zero)))) h = ltb-true 0 _ refl
+waits-after (suc (suc (suc (suc (suc k))))) h = absurd (omega arith)
+
+loaded-period : Loaded (marked 1) load 5
+unfolding overlay
+loaded-period =
+    let ran : clockAfter (marked 1) load ≡ 15 = refl in
+    (refl, refl, omega (arith, ran), (ltb-true 0 _ refl, λ u from before. omega (arith, waits-after (u - 5) (omega arith), ap (λ (v : ℕ). tickAt (marked 1) load v .after) (same u from))))
+  where
+    same : (u : ℕ) → 5 ≤ u → 5 + (u - 5) ≡ u
+    same u h = omega arith
+
+promised : (tally (byBudgetIn (marked 1) load) 5 5 ≡ 2) × (2 ≤ howMany hasRequest (stretch 5 5 (ticks (marked 1) load)))
+unfolding overlay
+promised = (guarantee (marked 1) refl load .budget 5 loaded-period, guarantee (marked 1) refl load .atleast 5 loaded-period)
 
 -- so the theorem applies, to these calls and to every other list
 kept-each : (calls : List Call) → Guarantee (marked 0) calls × Guarantee (marked 1) calls × Guarantee (marked 2) calls × Guarantee (marked 3) calls × Guarantee (marked 4) calls

@@ -1,7 +1,7 @@
 -- One tick, steps 1 to 6 of document 01, in parts: the tasks (steps 1 and 2), the server (step 3), the choice (step 4), and what
 -- the choice does to the tasks, the queue and the server (step 5). Only the queue's part looks inside the queue: the others see
 -- whether a request waits, and the server also whether none waits after the tick's work.
-use Prim.Native.Nat.{ℕ, zero, suc, _+_, _-_}
+use Prim.Native.Nat.{ℕ, suc, _+_, _-_}
 use mathlib.Core.Bool.{Bool, true, false, cond, not, _&&_}
 use mathlib.Core.List.{List, [], _∷_}
 use lib.ListN.{take, getD, set}

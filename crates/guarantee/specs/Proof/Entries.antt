@@ -2,7 +2,7 @@
 use Prim.Native.Nat.{ℕ, zero, suc, _+_, _-_, _≤_, _<_}
 use native.Mathlib.Omega.{arith}
 use mathlib.Core.Path.{_≡_, refl}
-use mathlib.Core.Bool.{Bool, true, false, cond, _&&_, _||_, not}
+use mathlib.Core.Bool.{Bool, true, false, cond, _&&_, _||_}
 use mathlib.Core.List.{List, [], _∷_}
 use lib.Dec.{eqb, eqb·zero-suc, eqb·suc-zero, eqb·suc-suc}
 use lib.ListN.{length, take, getD, set}
@@ -58,17 +58,6 @@ task-step s waiting x ls q d i = go (anyOpen (take s ls)) (some s ls) x (anyOpen
     go false h false true f idle = f refl
     go false h false false f true = omega arith
     go false h false false f false = omega arith
-
--- where the server may serve, a request has the tick unless a task above is open
-pub request-step : (above busy waiting x : Bool) (first d : ℕ) (q : List Request) →
-    (byRequest (entryBy (occupantOf (choose above busy waiting x first) q) d) && x) ≡ (not above && x)
-request-step true busy waiting x first d q = refl
-request-step false busy waiting true first d q = refl
-request-step false busy waiting false first d q = none (byRequest (entryBy (occupantOf (choose false busy waiting false first) q) d))
-  where
-    none : (b : Bool) → b && false ≡ false
-    none true = refl
-    none false = refl
 
 -- where b and a waiting request alone decide whether the server may serve, a request has the tick with b above 0 just by the budget
 pub budget-step : (above busy waiting some : Bool) (first d : ℕ) (q : List Request) →

@@ -29,12 +29,12 @@ use Rattle.guarantee.specs.Proof.Items.{server, Cells, taken, someOpen, 
 use Rattle.guarantee.specs.Proof.Chain.{SoundAll}
 use Rattle.guarantee.specs.Proof.Window.{cut, Plain}
 use Rattle.guarantee.specs.Proof.Free.{above, frees, enough-free}
-use Rattle.guarantee.specs.Proof.Tie.{items, bitsOf, sees}
+use Rattle.guarantee.specs.Proof.Tie.{items, bitsOf, serves-by, sees}
 use Rattle.guarantee.specs.Proof.Places.{seat, seat-taken}
 use Rattle.guarantee.specs.Proof.Run.{Run, reads, run-states}
 use Rattle.guarantee.specs.Calls.{byRequest}
 use Rattle.guarantee.specs.Guarantee.{exact}
-use Rattle.guarantee.specs.Proof.Entries.{request-step, budget-step}
+use Rattle.guarantee.specs.Proof.Entries.{budget-step}
 
 -- ---- one clause for each kind
 -- step 3, and step 5 while requests wait
@@ -109,9 +109,8 @@ module _ (p : TaskSet) (m : ℕ → Model) (N : ℕ) (run : Run p m N) (e : exac
 
   serves : (u : ℕ) → u ≤ N → Backlog p (m u) → served u ≡ (not (aboveAt p (m u)) && ltb 0 (inside u))
   serves u h w =
-      ap (λ (b : Bool). byRequest (entryOf (tick p (m u))) && b) (sym (may-is u w))
-      ∙ request-step (aboveAt p (m u)) (busyAt p (m u)) (waits (m u .queue)) (mayAt p (m u)) (firstOpen (leftsAt p (m u)))
-      (dropped (m u .clock) (p .tasks) (m u .lefts)) (m u .queue)
+      served-turn p (m u) e
+      ∙ serves-by (aboveAt p (m u)) (busyAt p (m u)) (waits (m u .queue)) (mayAt p (m u)) (firstOpen (leftsAt p (m u)))
       ∙ ap (λ (b : Bool). not (aboveAt p (m u)) && b) (may-is u w ∙ ap (ltb 0) (inside-is u h))
 
   -- what stands above the server takes tick u where a task above is open

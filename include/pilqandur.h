@@ -19,7 +19,7 @@
  *    states that went through the archive.
  *
  * A state is numbers alone, without pointers: it can be copied, stored and taken up again. Every pattern of bits is taken. A
- * state is fit if its table passes 1, 2 and 3, left[i] <= exec of each task in use, at most 64 wait, each with work 1 to 60,000
+ * state is fit if its table passes 1, 2 and 3, left[i] <= exec of each task in use, at most 24 wait, each with work 1 to 60,000
  * and arrival <= clock, budget <= the server's, clock <= 4,000,000,000, tr and begin <= clock, nr <= 4,000,060,000, and each
  * flag is 0 or 1. Under kind 4, besides: the lengths of the stretches held and budget add up to the server's budget, and the
  * stretches are at most 32, none empty, oldest first, a tick or more between each and the next, all within the server's last
@@ -50,11 +50,11 @@ extern "C" {
 #endif
 
 /* The number of this header. It rises with every change of a struct, a number or a meaning. */
-#define PILQANDUR_VERSION 3u
+#define PILQANDUR_VERSION 4u
 
 /* The limits. Times are in ticks of 10 ms. */
 #define PILQANDUR_MAX_TASKS 16
-#define PILQANDUR_MAX_WAITING 64
+#define PILQANDUR_MAX_WAITING 24
 #define PILQANDUR_MAX_STRETCHES 32
 #define PILQANDUR_MAX_TIME 60000u        /* of a phase, a period, an execution, a deadline, a server's period and budget */
 #define PILQANDUR_MAX_WORK 60000u        /* of a request */
@@ -66,9 +66,9 @@ extern "C" {
  * by value, twice with some compilers: README.md has figures with that. */
 #define PILQANDUR_STACK_SET_UP 656
 #define PILQANDUR_STACK_ADMIT 1360
-#define PILQANDUR_STACK_REQUEST 5648
-#define PILQANDUR_STACK_TICK 6752
-#define PILQANDUR_STACK_RUN 6256
+#define PILQANDUR_STACK_REQUEST 3728
+#define PILQANDUR_STACK_TICK 4832
+#define PILQANDUR_STACK_RUN 4672
 
 /* Kinds of a server. */
 #define PILQANDUR_BACKGROUND 0u
@@ -89,7 +89,7 @@ extern "C" {
 #define PILQANDUR_BAD_TASK 2u       /* a task breaks its limits; `index` is the first such */
 #define PILQANDUR_BAD_SERVER 3u     /* the server breaks its limits */
 #define PILQANDUR_BAD_WORK 4u       /* work 0 or above 60,000 */
-#define PILQANDUR_QUEUE_FULL 5u     /* 64 wait */
+#define PILQANDUR_QUEUE_FULL 5u     /* 24 wait */
 #define PILQANDUR_CLOCK_SPENT 6u    /* the ticks wanted pass 4,000,000,000 */
 #define PILQANDUR_PLAN_TOO_LONG 7u  /* 7, 8, 9: the plan reader's, in the program `schedule`; no function here gives them */
 #define PILQANDUR_BAD_LINE 8u

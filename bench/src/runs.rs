@@ -2,6 +2,7 @@
 
 use differential::abi::{self, Calls};
 use differential::convert::{from_entry, from_state, to_state};
+use second::state::QUEUE;
 use second::{Entry, Row, Server, State, Table};
 
 use crate::{least, timed};
@@ -31,7 +32,7 @@ fn table(kind: u32, n: u32) -> Table {
 fn state(kind: u32, n: u32, full: bool) -> State {
     let mut state = State::set_up(table(kind, n)).expect("a table within its limits");
     if full {
-        for id in 0..64 {
+        for id in 0..QUEUE as u32 {
             state.request(id, 60_000).expect("room in the queue");
         }
     }

@@ -3,11 +3,11 @@
 #![allow(dead_code)] // a caller need not use all of it
 
 /// The number of the header that these declarations follow: `version()` has to be it.
-pub const VERSION: u32 = 3;
+pub const VERSION: u32 = 4;
 
 /// The limits. Times are in ticks of 10 ms.
 pub const MAX_TASKS: u32 = 16;
-pub const MAX_WAITING: u32 = 64;
+pub const MAX_WAITING: u32 = 24;
 pub const MAX_STRETCHES: u32 = 32;
 pub const MAX_TIME: u32 = 60000;
 pub const MAX_WORK: u32 = 60000;
@@ -60,7 +60,7 @@ pub struct Server {
 #[repr(C)]
 #[derive(Clone, Copy, Debug, Default, PartialEq, Eq)]
 pub struct Table {
-    pub tasks: [Task; 16],
+    pub tasks: [Task; MAX_TASKS as usize],
     pub n: u32,
     pub server: Server,
 }
@@ -87,7 +87,7 @@ pub struct ServerState {
 #[repr(C)]
 #[derive(Clone, Copy, Debug, Default, PartialEq, Eq)]
 pub struct Progress {
-    pub left: [u32; 16],
+    pub left: [u32; MAX_TASKS as usize],
     pub server: ServerState,
     pub clock: u32,
 }
@@ -104,7 +104,7 @@ pub struct Waiting {
 #[repr(C)]
 #[derive(Clone, Copy, Debug, PartialEq, Eq)]
 pub struct Queue {
-    pub requests: [Waiting; 64],
+    pub requests: [Waiting; MAX_WAITING as usize],
     pub n: u32,
 }
 
@@ -119,7 +119,7 @@ pub struct Stretch {
 #[repr(C)]
 #[derive(Clone, Copy, Debug, Default, PartialEq, Eq)]
 pub struct Returns {
-    pub stretches: [Stretch; 32],
+    pub stretches: [Stretch; MAX_STRETCHES as usize],
     pub n: u32,
 }
 
@@ -153,7 +153,7 @@ pub struct SetUpResult {
 pub struct AdmissionResult {
     pub number: u32,
     pub index: u32,
-    pub bounds: [u32; 16],
+    pub bounds: [u32; MAX_TASKS as usize],
     pub serverbound: u32,
     pub admitted: u32,
 }

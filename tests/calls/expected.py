@@ -1,5 +1,5 @@
 #!/usr/bin/env python3
-"""The second computation of the program `calls`: the same cases, worked out from the text of document 01 and of 02's 3/13 and 5/13.
+"""The second computation of the program `calls`: the same cases, worked out from document 01 and 02's 3/13, 5/13 and 6/13.
 
 Nothing here is taken from the product's definitions or code but the order of a state's fields, in which the digest reads them,
 the letters on a line, and three points that document 01 leaves free: a refused set-up hands back the table's fresh state (of an
@@ -11,6 +11,7 @@ import copy
 import sys
 
 LIMIT = 60_000
+WAITING = 24  # 6/13; the 64 of document 01 is among the cases
 LAST_CLOCK = 4_000_000_000
 LAST_NR = 4_000_060_000
 TOP = 4_294_967_295
@@ -23,7 +24,7 @@ def base(kind):
     server = [0, 2, 0, 0] if kind == 0 else [kind, 1, 10, 4]
     left = [0] * 16
     left[:3] = [2, 4, 60001]
-    requests = [[6, 5, 50] for _ in range(64)]
+    requests = [[6, 5, 50] for _ in range(WAITING)]
     requests[:3] = [[7, 2, 90], [8, 60000, 100], [7, 1, 95]]
     stretches = [[99, 9] for _ in range(32)]
     stretches[:2] = [[92, 2], [96, 1]]
@@ -116,7 +117,7 @@ def unfit(s):
         return True
     if any(s["left"][i] > s["rows"][i][2] for i in range(s["n"])):
         return True
-    if s["waiting"] > 64:
+    if s["waiting"] > WAITING:
         return True
     queue = s["requests"][:s["waiting"]]
     if any(not 1 <= work <= LIMIT for _, work, _ in queue):
@@ -135,7 +136,7 @@ def fresh(s):
     f["b"] = s["server"][3] if s["server"][0] in (1, 2, 3, 4) else 0
     for k in ("tr", "begin", "nr", "served", "late", "above", "busy", "clock", "waiting", "held"):
         f[k] = 0
-    f["requests"] = [[0, 0, 0] for _ in range(64)]
+    f["requests"] = [[0, 0, 0] for _ in range(WAITING)]
     f["stretches"] = [[0, 0] for _ in range(32)]
     return f
 
@@ -301,7 +302,7 @@ def request(s, ident, work):
         return 11, s
     if work < 1 or work > LIMIT:
         return 4, s
-    if s["waiting"] >= 64:
+    if s["waiting"] >= WAITING:
         return 5, s
     s = copy.deepcopy(s)
     s["requests"][s["waiting"]] = [ident, work, s["clock"]]
@@ -377,7 +378,7 @@ STATE = [
     ("left 0", [0, 3, 4]), ("left 1", [0, 4, 5, TOP]), ("left 2", [0, TOP]),
     ("clock", [99, 100, 3999999999, 4000000000]), ("clock", [4000000001, TOP]),
     ("b", [0, 1, 4, 5]), ("tr", [0, 100, 101]), ("begin", [0, 100, 101]), ("nr", [100, 4000060000, 4000060001]),
-    ("waiting", [0, 1, 63, 64, 65, TOP]), ("work 0", [0, 1, 60000, 60001]), ("work 2", [0, 60000, 60001]),
+    ("waiting", [0, 1, 23, 24, 25, 64, TOP]), ("work 0", [0, 1, 60000, 60001]), ("work 2", [0, 60000, 60001]),
     ("work 3", [0, 60001]),
     ("arrival 0", [0, 100, 101]), ("arrival 2", [100, 101]), ("arrival 3", [101]), ("id 0", [0, TOP]),
     ("held", [0, 1, 3, 32, 33, TOP]), ("start 0", [89, 90, 93, 94, 95, 97]), ("start 1", [94, 95, 99, 100, TOP]),
@@ -388,11 +389,11 @@ RETURNS_ORDERS = [
     (("clock", 97), ("P", 5)), (("clock", 97), ("P", 4)),
 ]
 STATE_ORDERS = [
-    (("clock", 4000000000), ("left 0", 4)), (("clock", 4000000000), ("waiting", 64)),
+    (("clock", 4000000000), ("left 0", 4)), (("clock", 4000000000), ("waiting", 24)),
     (("clock", 4000000000), ("tr", 4000000000)), (("clock", 4000000000), ("tr", 4000000001)),
     (("clock", 3999999999), ("b", 0)),
 ]
-REQUESTS = [(0, [0, 1, 60000, 60001, TOP]), (63, [0, 1, 60000, 60001]), (64, [0, 1, 60000, 60001]), (65, [0, 1])]
+REQUESTS = [(0, [0, 1, 60000, 60001, TOP]), (23, [0, 1, 60000, 60001]), (24, [0, 1, 60000, 60001]), (25, [0, 1]), (64, [0, 1])]
 
 
 def main():
@@ -421,8 +422,8 @@ RUNS = [
     ("clock", 100, TOP, 8),
     ("clock", 3999999997, 3, 3), ("clock", 3999999997, 4, 4), ("clock", 3999999997, 4, 3),
     ("clock", 4000000000, 0, 0), ("clock", 4000000000, 1, 1), ("clock", 4000000001, 0, 0),
-    ("left 0", 4, 0, 0), ("left 0", 4, 4, 3), ("waiting", 65, TOP, 0),
-    ("waiting", 64, 8, 8), ("waiting", 0, 8, 8), ("work 0", 1, 8, 8),
+    ("left 0", 4, 0, 0), ("left 0", 4, 4, 3), ("waiting", 25, TOP, 0),
+    ("waiting", 24, 8, 8), ("waiting", 0, 8, 8), ("work 0", 1, 8, 8),
 ]
 
 

@@ -192,6 +192,10 @@ static void state_numbers(void)
     for (int i = 0; i < PILQANDUR_MAX_WAITING; i++)
         expect(pilqandur_request_at(&s, 1, 1) == PILQANDUR_DONE, "a queue below its limit");
     expect(pilqandur_request(s, 1, 1).number == PILQANDUR_QUEUE_FULL, "MAX_WAITING, QUEUE_FULL");
+    expect(pilqandur_tick(s).number == PILQANDUR_DONE, "a queue at its limit");
+    s.queue.n++;
+    expect(pilqandur_request(s, 1, 1).number == PILQANDUR_UNFIT_STATE, "MAX_WAITING, UNFIT_STATE");
+    s.queue.n--;
     s.progress.clock = PILQANDUR_LAST_CLOCK - 1;
     expect(pilqandur_tick_at(&s, NULL) == PILQANDUR_DONE && pilqandur_tick(s).number == PILQANDUR_CLOCK_SPENT, "LAST_CLOCK, CLOCK_SPENT");
     s.progress.clock++;

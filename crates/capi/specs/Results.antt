@@ -21,7 +21,7 @@ use Rattle.capi.specs.Boundary.{flagsFit, stateFrom, stateTo}
 
 -- the number of this header and archive
 abbrev pub version : ℕ
-version = 3
+version = 4
 
 -- "A refusal returns its number, and for 2 the index"
 abbrev pub setUpResult : Figures → State → SetUpResult

@@ -21,7 +21,7 @@ use table::Table;
 mod boundary;
 
 // The number of this header and archive: it rises with each change of a struct, a number or a meaning. include/pilqandur.h says the same.
-const VERSION: u32 = 3;
+const VERSION: u32 = 4;
 
 // ---- what a call answers: number is 0 or document 01's number of the refusal; index belongs to refusal 2
 

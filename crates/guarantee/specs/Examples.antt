@@ -95,6 +95,21 @@ kept-each : (calls : List Call) → Guarantee (marked 0) calls × Guarantee (mar
 unfolding overlay
 kept-each calls = (guarantee (marked 0) refl calls, guarantee (marked 1) refl calls, guarantee (marked 2) refl calls, guarantee (marked 3) refl calls, guarantee (marked 4) refl calls)
 
+-- ---- 6/13: "The bounds hold with the shorter queue, refused requests included": 25 requests before the first tick, of which 24 are taken,
+-- then nine ticks. The row's job of tick 3 has its two ticks within its bound
+abbrev presents : ℕ → List Call
+presents zero = run 9 (lent 9) ∷ []
+presents (suc n) = request n 1 ∷ presents n
+
+taken-each : map (λ (k : ℕ). map (λ (n : ℕ). tickAt (marked k) (presents n) 0 .before) (23 ∷ 24 ∷ 25 ∷ [])) (0 ∷ 1 ∷ 2 ∷ 3 ∷ 4 ∷ []) ≡
+    (23 ∷ 24 ∷ 24 ∷ []) ∷ (23 ∷ 24 ∷ 24 ∷ []) ∷ (23 ∷ 24 ∷ 24 ∷ []) ∷ (23 ∷ 24 ∷ 24 ∷ []) ∷ (23 ∷ 24 ∷ 24 ∷ []) ∷ []
+unfolding overlay
+taken-each = refl
+
+in-time : howMany (hasTask 0) (stretch 3 6 (ticks (marked 2) (presents 25))) ≡ 2
+unfolding overlay
+in-time = guarantee (marked 2) refl (presents 25) .whole 0 3 (omega arith) refl (omega arith)
+
 -- ---- "With D = 5 deferrable: bound 0, and tick 8 drops one"
 abbrev tight : Table
 tight = one 5 2 0 5 2

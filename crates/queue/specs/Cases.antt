@@ -3,12 +3,13 @@ use Prim.Native.Nat.{ℕ}
 use mathlib.Core.Path.{_≡_, refl}
 use mathlib.Core.Bool.{true, false}
 use mathlib.Core.List.{[], _∷_, map}
-use lib.ListN.{length}
+use lib.ListN.{length, replicate}
 use Rattle.lists.specs.Lists.{overlay}
 use Rattle.queue.specs.declared.Request.{Request}
 use Rattle.queue.specs.declared.Queue.{Queue}
 use Rattle.queue.specs.declared.Finish.{Finish}
-use Rattle.queue.specs.Queue.{workFits, waitingOf, queueWith, freshQueue, waits, headId, presented, served, finished, finishFigures, requestFits, requestsFit}
+use Rattle.queue.specs.Queue.{maxWaiting, workFits, waitingOf, queueWith, freshQueue, waits, headId, presented, served, finished, finishFigures, requestFits, requestsFit}
+use Rattle.queue.specs.Steps.{pushedQueue, servedQueue, queueFits}
 
 -- id, work left, arrival
 abbrev ask : ℕ → ℕ → ℕ → Request
@@ -18,8 +19,12 @@ ask i w a = record { id = i; work = w; arrival = a }
 abbrev three : Queue
 three = record { requests = ask 7 1 3 ∷ ask 8 2 5 ∷ ask 9 9 9 ∷ []; n = 2 }
 
+-- every slot with one tick of work, and n of them in use
+abbrev many : ℕ → Queue
+many n = record { requests = replicate maxWaiting (ask 7 1 3); n = n }
+
 pub record QueueCases : Type 0 where
-  pub fresh-slots : length (freshQueue .requests) ≡ 64
+  pub fresh-slots : length (freshQueue .requests) ≡ 24
   pub fresh-waits : waits (waitingOf freshQueue) ≡ false
   pub in-use : waitingOf three ≡ ask 7 1 3 ∷ ask 8 2 5 ∷ []
   pub head-waits : waits (waitingOf three) ≡ true
@@ -38,6 +43,10 @@ pub record QueueCases : Type 0 where
   pub work-limits : map workFits (0 ∷ 1 ∷ 60_000 ∷ 60_001 ∷ []) ≡ false ∷ true ∷ true ∷ false ∷ []
   pub arrival-limits : map (λ a. requestFits 5 (ask 0 1 a)) (0 ∷ 5 ∷ 6 ∷ []) ≡ true ∷ true ∷ false ∷ []
   pub every-request : requestsFit 5 (ask 0 1 5 ∷ ask 0 0 5 ∷ []) ≡ false
+  -- 6/13: 24 may wait: a 25th is not taken, and a queue that says 25 is not fit and is not served
+  pub fits-limits : map (λ n. queueFits 5 (many n)) (23 ∷ 24 ∷ 25 ∷ []) ≡ true ∷ true ∷ false ∷ []
+  pub push-limits : map (λ n. pushedQueue (many n) 4 6 5 .n) (23 ∷ 24 ∷ 25 ∷ []) ≡ 24 ∷ 24 ∷ 25 ∷ []
+  pub serve-limits : map (λ n. servedQueue (many n) .n) (24 ∷ 25 ∷ []) ≡ 23 ∷ 25 ∷ []
 
 pub queue-cases : QueueCases
 unfolding overlay
@@ -60,4 +69,7 @@ queue-cases = record {
   work-limits = refl;
   arrival-limits = refl;
   every-request = refl;
+  fits-limits = refl;
+  push-limits = refl;
+  serve-limits = refl;
 }

@@ -10,9 +10,9 @@ use Rattle.queue.specs.declared.Request.{Request}
 use Rattle.queue.specs.declared.Queue.{Queue}
 use Rattle.queue.specs.declared.Finish.{Finish}
 
--- "The queue holds at most 64 requests."
+-- 6/13: "The queue's limit becomes 24 in the state, the request call and refusal 11."
 abbrev pub maxWaiting : ℕ
-maxWaiting = 64
+maxWaiting = 24
 
 -- "Each has .. work left (1 to 60,000)."
 abbrev pub maxWork : ℕ

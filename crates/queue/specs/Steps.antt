@@ -14,6 +14,6 @@ pushedQueue q id work t = cond (ltb (q .n) maxWaiting) (queueWith q (presented i
 abbrev pub servedQueue : Queue → Queue
 servedQueue q = cond (leb (q .n) maxWaiting) (queueWith q (served (waitingOf q))) q
 
--- Refusal 11: "more than 64 waiting, a waiting work outside 1 to 60,000, .. an arrival .. after the clock"
+-- Refusal 11: more than 24 waiting (6/13), "a waiting work outside 1 to 60,000, .. an arrival .. after the clock"
 abbrev pub queueFits : ℕ → Queue → Bool
 queueFits clock q = leb (q .n) maxWaiting && requestsFit clock (waitingOf q)

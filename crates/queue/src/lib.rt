@@ -31,7 +31,7 @@ pub struct Queue {
 
 impl Queue {
     // How many may wait.
-    pub const CAPACITY: u32 = 64;
+    pub const CAPACITY: u32 = 24;
     // The longest work of a request.
     pub const MAX_WORK: u32 = 60000;
 
@@ -92,12 +92,12 @@ impl Queue {
     pub fn fits(self, clock: u32) -> bool
         ensures { λ r. ⌜ r ≡ queueFits clock self ⌝ }
     {
-        let n = self.n;
-        if Queue::CAPACITY < n {
+        let waiting = self.n;
+        if Queue::CAPACITY < waiting {
             return false;
         }
         let requests = self.requests;
-        let end = n as usize;
+        let end = waiting as usize;
         let mut i: usize = 0;
         while i < end {
             let request = requests[i];

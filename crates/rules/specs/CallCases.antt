@@ -1,5 +1,5 @@
 -- Cases of the calls: each refusal in its order and at its limit, what a refused call leaves alone, and what a run writes.
-use Prim.Native.Nat.{ℕ, zero, suc, _+_, _-_}
+use Prim.Native.Nat.{ℕ, zero, suc, _+_}
 use mathlib.Core.Path.{_≡_, refl}
 use mathlib.Core.Bool.{true, false}
 use mathlib.Core.List.{List, [], _∷_, map}
@@ -94,18 +94,19 @@ entry k i d = record { kind = k; id = i; drops = d }
 pub record CallCases : Type 0 where
   -- a request: "11, 4, 5"
   pub asked-work : map (λ w. numberOf (requestCall base 7 w .answer)) (0 ∷ 1 ∷ 60_000 ∷ 60_001 ∷ []) ≡ 4 ∷ 0 ∷ 0 ∷ 4 ∷ []
-  pub asked-room : numberOf (requestCall (waiting (maxWaiting - 1)) 7 4 .answer) ≡ 0
-  pub asked-full : numberOf (requestCall (waiting maxWaiting) 7 4 .answer) ≡ 5
-  pub asked-full-work : numberOf (requestCall (waiting maxWaiting) 7 0 .answer) ≡ 4
+  -- 6/13: "Refusal 5 is given if 24 wait"; with 25 or, as before it, 64 the state is unfit, whatever the call
+  pub asked-waiting : map (λ n. numberOf (requestCall (waiting n) 7 4 .answer)) (23 ∷ 24 ∷ 25 ∷ 64 ∷ []) ≡ 0 ∷ 5 ∷ 11 ∷ 11 ∷ []
+  pub asked-full-work : map (λ n. numberOf (requestCall (waiting n) 7 0 .answer)) (24 ∷ 25 ∷ []) ≡ 4 ∷ 11 ∷ []
   pub asked-unfit : numberOf (requestCall (atClock 4_000_000_001) 7 0 .answer) ≡ 11
   pub asked-last : numberOf (requestCall (atClock 4_000_000_000) 7 4 .answer) ≡ 0
   pub asked-state : modelOf (requestCall (atClock 9) 7 4 .state) .queue ≡ record { id = 7; work = 4; arrival = 9 } ∷ []
-  pub asked-refused : requestCall (waiting maxWaiting) 7 4 .state ≡ waiting maxWaiting
+  pub asked-refused : map (λ n. requestCall (waiting n) 7 4 .state) (24 ∷ 25 ∷ []) ≡ waiting 24 ∷ waiting 25 ∷ []
   -- a tick: "11, 6"
   pub tick-last : refusalOf (tickCall (atClock 3_999_999_999) .answer) ≡ 0
   pub tick-spent : refusalOf (tickCall (atClock 4_000_000_000) .answer) ≡ 6
   pub tick-unfit : refusalOf (tickCall (atClock 4_000_000_001) .answer) ≡ 11
   pub tick-refused : tickCall (atClock 4_000_000_000) .state ≡ atClock 4_000_000_000
+  pub tick-waiting : map (λ n. refusalOf (tickCall (waiting n) .answer)) (24 ∷ 25 ∷ []) ≡ 0 ∷ 11 ∷ []
   -- a run: "11, 6, 10"; a run of 0 is accepted at the last clock
   pub run-short : numberOf (runCall base 3 2 .answer) ≡ 10
   pub run-room : numberOf (runCall base 3 3 .answer) ≡ 0
@@ -113,6 +114,7 @@ pub record CallCases : Type 0 where
   pub run-last : numberOf (runCall (atClock 3_999_999_998) 2 2 .answer) ≡ 0
   pub run-spent : numberOf (runCall (atClock 3_999_999_998) 3 2 .answer) ≡ 6
   pub run-unfit : numberOf (runCall (atClock 4_000_000_001) 1 0 .answer) ≡ 11
+  pub run-waiting : map (λ n. numberOf (runCall (waiting n) 1 1 .answer)) (24 ∷ 25 ∷ []) ≡ 0 ∷ 11 ∷ []
   pub run-writes :
       runList (requestCall (runState 3 base) 7 4 .state) 5 (replicate 6 (entry 5 5 5)) ≡
       entry 2 7 0 ∷ entry 2 7 0 ∷ entry 2 7 0 ∷ entry 2 7 0 ∷ entry 1 0 0 ∷ entry 5 5 5 ∷ []
@@ -142,8 +144,7 @@ pub call-cases : CallCases
 unfolding overlay
 call-cases = record {
   asked-work = refl;
-  asked-room = refl;
-  asked-full = refl;
+  asked-waiting = refl;
   asked-full-work = refl;
   asked-unfit = refl;
   asked-last = refl;
@@ -153,12 +154,14 @@ call-cases = record {
   tick-spent = refl;
   tick-unfit = refl;
   tick-refused = refl;
+  tick-waiting = refl;
   run-short = refl;
   run-room = refl;
   run-none = refl;
   run-last = refl;
   run-spent = refl;
   run-unfit = refl;
+  run-waiting = refl;
   run-writes = refl;
   run-refused = refl;
   run-refused-state = refl;

@@ -1,5 +1,5 @@
 -- Cases of the limits, each at its edge: refusals 1, 2, 3 and 11, in their order.
-use Prim.Native.Nat.{ℕ, suc}
+use Prim.Native.Nat.{ℕ}
 use mathlib.Core.Path.{_≡_, refl}
 use mathlib.Core.Bool.{true, false}
 use mathlib.Core.List.{List, [], _∷_, map}
@@ -132,8 +132,8 @@ pub record LimitCases : Type 0 where
   pub work-none : fit (stood fine [] 2 0 0 0 9 (waiting 0 9)) ≡ false
   pub work-past : fit (stood fine [] 2 0 0 0 9 (waiting 60_001 9)) ≡ false
   pub arrival-past : fit (stood fine [] 2 0 0 0 9 (waiting 1 10)) ≡ false
-  pub full-fits : fit (stood fine [] 2 0 0 0 9 (many maxWaiting)) ≡ true
-  pub waiting-past : fit (stood fine [] 2 0 0 0 9 (many (suc maxWaiting))) ≡ false
+  -- 6/13: 24 may wait, and 64, the limit before it, may not
+  pub waiting-limits : map (λ n. fit (stood fine [] 2 0 0 0 9 (many n))) (23 ∷ 24 ∷ 25 ∷ 64 ∷ []) ≡ true ∷ true ∷ false ∷ false ∷ []
   pub table-unfit : fit (stood (server 5 0 5 2) [] 2 0 0 0 9 freshQueue) ≡ false
   -- 3/13: of kind 4 alone, held ticks plus b are B; here none is held and B is 2
   pub less-budget : map (λ k. fit (stood (server k 0 5 2) [] 1 0 0 0 9 freshQueue)) (1 ∷ 2 ∷ 3 ∷ 4 ∷ []) ≡ true ∷ true ∷ true ∷ false ∷ []
@@ -188,8 +188,7 @@ limit-cases = record {
   work-none = refl;
   work-past = refl;
   arrival-past = refl;
-  full-fits = refl;
-  waiting-past = refl;
+  waiting-limits = refl;
   table-unfit = refl;
   less-budget = refl;
   full-budget = refl;

@@ -66,7 +66,7 @@ modelFits p m =
 abbrev pub stateReturnsFit : State → Bool
 stateReturnsFit s = wholeFits (kindOf (s .table .server .kind)) (s .table .server) (s .progress .clock) (s .progress .server .budget) (s .returns)
 
--- "An 11 is a state whose table breaks 1 to 3, .. more than 64 waiting", or as above
+-- "An 11 is a state whose table breaks 1 to 3, ..", more than 24 waiting (6/13), or as above
 abbrev pub fit : State → Bool
 fit s =
     passed (tableCheck (s .table)) && leb (s .queue .n) maxWaiting && stateReturnsFit s

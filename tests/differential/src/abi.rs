@@ -62,9 +62,9 @@ pub struct Request {
 }
 
 #[repr(C)]
-#[derive(Clone, Copy, Debug, PartialEq, Eq)]
+#[derive(Clone, Copy, Debug, Default, PartialEq, Eq)]
 pub struct Queue {
-    pub requests: [Request; 64],
+    pub requests: [Request; 24],
     pub n: u32,
 }
 
@@ -83,7 +83,7 @@ pub struct Returns {
 }
 
 #[repr(C)]
-#[derive(Clone, Copy, Debug, PartialEq, Eq)]
+#[derive(Clone, Copy, Debug, Default, PartialEq, Eq)]
 pub struct State {
     pub table: Table,
     pub progress: Progress,

@@ -1,5 +1,6 @@
 //! One library call, made on both sides and compared.
 
+use second::state::QUEUE;
 use second::{Entry, Returns, Service, State, Table, Ticked};
 
 use crate::abi::{self, Calls};
@@ -331,12 +332,18 @@ fn drop_first_row(state: &mut State) {
     }
 }
 
+/// How many of the queue's slots are in use: all, if more are said to wait.
+pub fn slots_used(state: &State) -> usize {
+    state.waiting.min(QUEUE as u32) as usize
+}
+
 fn plain_requests(state: &mut State) {
-    state.queue[..state.waiting.min(64) as usize].fill(second::Request { id: 1, work: 1, arrival: 0 });
+    let waiting = slots_used(state);
+    state.queue[..waiting].fill(second::Request { id: 1, work: 1, arrival: 0 });
 }
 
 fn clear_unused(state: &mut State) {
-    let (rows, waiting, held) = (state.table.n.min(16) as usize, state.waiting.min(64) as usize, state.returns.held.min(32) as usize);
+    let (rows, waiting, held) = (state.table.n.min(16) as usize, slots_used(state), state.returns.held.min(32) as usize);
     state.table.rows[rows..].fill(second::Row::default());
     state.left[rows..].fill(0);
     state.queue[waiting..].fill(second::Request::default());

@@ -16,3 +16,4 @@ pub mod shrink;
 pub mod standin;
 pub mod state;
 pub mod unnoticed;
+pub mod waiting;

@@ -1,12 +1,13 @@
 //! Random plans, good and damaged, long and short, with padded numbers and without.
 
+use second::state::QUEUE;
 use second::table::{BACKGROUND, FIELD_MOST, RETURNING, ROWS};
 use second::{Row, Server, Table};
 
 use crate::padding::pad_or_break;
 use crate::random::Random;
 
-/// Values at the edges of every limit of the table and the plan.
+/// Values at the edges of every limit of the table, the queue and the plan.
 pub const EDGES: &[u32] = &[
     0,
     1,
@@ -17,9 +18,9 @@ pub const EDGES: &[u32] = &[
     15,
     16,
     17,
-    63,
-    64,
-    65,
+    23,
+    24,
+    25,
     59_999,
     60_000,
     60_001,
@@ -120,7 +121,8 @@ pub fn server(random: &mut Random, n: u32, period: u32, share: u32) -> Server {
     Server { kind, place: random.from(0, n), period, budget }
 }
 
-/// A period and a budget with room for more than the 32 stretches that kind 4 may hold, or just not.
+/// A period and a budget with room for more than the 32 stretches that kind 4 may hold, or just not: with one tick each and one between
+/// them these take 63 ticks.
 pub fn room_for_all(random: &mut Random, server: &mut Server) {
     let other = random.from(65, 160);
     server.period = random.pick(&[63, 64, 65, 66, other, other]);
@@ -212,18 +214,25 @@ fn single_requests(random: &mut Random) -> Vec<String> {
     lines
 }
 
-/// More requests than the queue holds, in one tick and in the ticks after it.
+/// About as many requests as the queue holds, or far more, in one tick and in the ticks after it.
 fn burst(random: &mut Random) -> Vec<String> {
     let mut lines = table_lines(&table(random, 3, 8));
     let mut tick = random.from(0, 4);
     for _ in 0..random.from(1, 3) {
-        for i in 0..random.from(50, 75) {
+        for i in 0..at_once(random) {
             lines.push(format!("A,{tick},{i},{}", random.from(1, 2)));
         }
         tick += random.from(0, 9);
     }
     lines.push(format!("R,{}", random.from(1, 200)));
     lines
+}
+
+/// One short of what the queue holds, as many, one more, half to twice as many, about a hundred.
+fn at_once(random: &mut Random) -> u32 {
+    let most = QUEUE as u32;
+    let (some, many) = (random.from(most / 2, 2 * most), random.from(90, 110));
+    random.pick(&[most - 1, most, most + 1, some, some, many])
 }
 
 /// Large periods and long runs; once in a while as long as a run may be.

@@ -6,8 +6,7 @@ use crate::convert::*;
 pub const CALLS: Calls = Calls { set_up, admit, request, tick, run };
 
 pub unsafe extern "C" fn set_up(table: Table) -> SetUpResult {
-    let queue = Queue { requests: [Request::default(); 64], n: 0 };
-    let empty = State { table, progress: Progress::default(), queue, returns: Returns::default() };
+    let empty = State { table, ..State::default() };
     match second::State::set_up(from_table(&table)) {
         Ok(state) => SetUpResult { number: 0, index: 0, state: to_state(&state) },
         Err(refused) => SetUpResult { number: refused.number, index: refused.index, state: empty },

@@ -153,7 +153,7 @@ fn service(random: &mut Random, state: &State) -> Service {
 }
 
 fn fill_queue(random: &mut Random, state: &mut State) {
-    state.waiting = random.pick(&[0, 0, 1, 1, 2, 3, 10, 63, 64]);
+    state.waiting = random.pick(&[0, 0, 1, 1, 2, 3, 10, QUEUE as u32 - 1, QUEUE as u32]);
     for i in 0..QUEUE {
         state.queue[i] = if i < state.waiting as usize { waiting(random, state.clock) } else { any_request(random) };
     }
@@ -210,7 +210,7 @@ pub fn unfit(random: &mut Random) -> State {
     match random.below(10) {
         0 => state.table = bad_table(random),
         1 => state.left[row] = past_edge(random, state.table.rows[row].exec),
-        2 => state.waiting = past_edge(random, QUEUE as u32),
+        2 => too_many_waiting(random, &mut state),
         3 => one_waiting(random, &mut state).work = 0,
         4 => one_waiting(random, &mut state).work = past_edge(random, WORK_MOST),
         5 => state.service.budget = past_edge(random, state.table.server.budget),
@@ -230,10 +230,23 @@ fn grow_queue(random: &mut Random, state: &mut State, count: usize) {
     state.waiting = state.waiting.max(count as u32);
 }
 
-/// A request that waits; the queue grows if it is empty.
+/// The queue's limit in document 01, which request 6/13 of document 02 lowers.
+const FORMER_LIMIT: u32 = 64;
+
+/// Every slot holds a good request, so that the count alone makes the state unfit.
+fn too_many_waiting(random: &mut Random, state: &mut State) {
+    grow_queue(random, state, QUEUE);
+    let one_more = QUEUE as u32 + 1;
+    let other = random.from(one_more, u32::MAX);
+    state.waiting = random.pick(&[one_more, FORMER_LIMIT, other]);
+}
+
+/// A request that waits, at any place or at the ends; the queue grows if it is empty.
 fn one_waiting<'a>(random: &mut Random, state: &'a mut State) -> &'a mut Request {
     grow_queue(random, state, 1);
-    &mut state.queue[random.below(state.waiting as usize)]
+    let last = state.waiting as usize - 1;
+    let other = random.below(last + 1);
+    &mut state.queue[random.pick(&[0, last, other])]
 }
 
 fn set_arrival(random: &mut Random, state: &mut State, after: u32) {

@@ -57,12 +57,11 @@ fn ticks(plan: &Plan) -> Vec<Tick> {
     (0..plan.ticks).map(tick).collect()
 }
 
-/// An admitted plan under polling or deferrable service, neither long nor with many requests.
+/// An admitted plan under polling or deferrable service, not a long one.
 fn admitted(case: u64) -> Option<Plan> {
     let plan = read(&plan(&mut Random::new(2, case))).ok()?;
     let kind = plan.table.server.kind;
-    let small = plan.ticks < 1_000 && plan.arrivals.len() < 50;
-    ([POLLING, DEFERRABLE].contains(&kind) && small && admit(&plan.table).unwrap().admitted).then_some(plan)
+    ([POLLING, DEFERRABLE].contains(&kind) && plan.ticks < 1_000 && admit(&plan.table).unwrap().admitted).then_some(plan)
 }
 
 /// "In an admitted table under polling or deferrable service, a whole server period with the queue as demand 3 says still gives exactly the

@@ -11,7 +11,7 @@ use differential::state::fit;
 use papers::replay::{by_second, replay, Idle, Library, Scheduler, Tick};
 use papers::{beside, Report};
 use second::plan::{read, Plan};
-use second::state::CLOCK_LAST;
+use second::state::{CLOCK_LAST, QUEUE};
 use second::table::{ROWS, SPORADIC};
 use second::{State, Ticked};
 
@@ -88,9 +88,10 @@ impl SporadicBackground {
     }
 }
 
+/// A random plan under kind 3, not a long one, with no more requests than the queue holds: none is refused.
 fn sporadic_plan(case: u64) -> Option<Plan> {
     let plan = read(&plan(&mut Random::new(1, case))).ok()?;
-    (plan.table.server.kind == SPORADIC && plan.ticks < 1_000 && plan.arrivals.len() < 50).then_some(plan)
+    (plan.table.server.kind == SPORADIC && plan.ticks < 1_000 && plan.arrivals.len() <= QUEUE).then_some(plan)
 }
 
 /// Kind 3 with idle ticks given (document 02, 5/13) has the ticks of 000's server, and its budget and times wherever a row is open.

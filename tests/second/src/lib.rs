@@ -1,4 +1,4 @@
-//! A second implementation of document 01's tick scheduler, with requests 1/13 and 3/13 to 5/13 of document 02, written from the papers
+//! A second implementation of document 01's tick scheduler, with requests 1/13 and 3/13 to 6/13 of document 02, written from the papers
 //! and the recorded readings, with free points set to the product's: what stays in slot 0 when the last request leaves, and how kind 4's
 //! stretches stand in the state (`returning`).
 //!

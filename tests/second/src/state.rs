@@ -5,7 +5,8 @@ use crate::returning::Returns;
 use crate::table::*;
 use crate::Refused;
 
-pub const QUEUE: usize = 64;
+/// "The queue's limit becomes 24" (document 02, 6/13).
+pub const QUEUE: usize = 24;
 pub const WORK_MOST: u32 = 60_000;
 pub const CLOCK_LAST: u32 = 4_000_000_000;
 /// The latest next replenishment: the last clock and the longest period.
@@ -56,7 +57,7 @@ impl State {
         Ok(State { table, left: [0; ROWS], service, clock: 0, queue, waiting: 0, returns: Returns::NONE })
     }
 
-    /// The requests that wait; only for a state with at most 64.
+    /// The requests that wait; only for a state with at most as many as the queue holds.
     pub fn waiting(&self) -> &[Request] {
         &self.queue[..self.waiting as usize]
     }

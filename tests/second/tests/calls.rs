@@ -19,9 +19,9 @@ fn fresh() -> State {
 fn refused(mut state: State, number: u32) {
     let before = state;
     let mut entries = [Entry { kind: 8, id: 8, drops: 8 }; 2];
-    assert_eq!(state.request(1, 0), Err(number));
+    assert_eq!([state.request(1, 0), state.request(1, 1)], [Err(number); 2]);
     assert_eq!(state.tick(), Err(number));
-    assert_eq!(state.run(9, &mut entries), Err(number));
+    assert_eq!([state.run(9, &mut entries), state.run(0, &mut [])], [Err(number); 2]);
     assert_eq!(state, before);
     assert_eq!(entries, [Entry { kind: 8, id: 8, drops: 8 }; 2]);
 }
@@ -41,15 +41,14 @@ fn set_up_gives_the_index() {
 
 #[test]
 fn unfit_in_each_way() {
-    let ways: [fn(&mut State); 16] = [
+    let ways: [fn(&mut State); 15] = [
         |s| s.table.n = 0,
         |s| s.table.n = u32::MAX,
         |s| s.table.rows[1].exec = 0,
         |s| s.table.server.kind = 5,
         |s| s.left[0] = 3,
         |s| s.left[1] = 2,
-        |s| s.waiting = 65,
-        |s| s.waiting = u32::MAX,
+        |s| *s = with_waiting(25),
         |s| s.waiting = 1,
         |s| (s.waiting, s.queue[0]) = (1, Request { id: 1, work: 60_001, arrival: 0 }),
         |s| (s.waiting, s.queue[0]) = (1, Request { id: 1, work: 1, arrival: 1 }),
@@ -71,12 +70,12 @@ fn what_fitness_leaves_free() {
     let mut state = fresh();
     state.left = [9; 16];
     state.left[..2].copy_from_slice(&[2, 1]);
-    state.queue = [Request { id: 5, work: 0, arrival: 9 }; 64];
+    state.queue = [Request { id: 5, work: 0, arrival: 9 }; QUEUE];
     state.service = Service { nr: 4_000_060_000, served: true, late: true, above: true, busy: true, ..state.service };
     assert!(state.is_fit());
     state.tick().unwrap();
     assert_eq!(state.left[2..], [9; 14]);
-    assert_eq!(state.queue, [Request { id: 5, work: 0, arrival: 9 }; 64]);
+    assert_eq!(state.queue, [Request { id: 5, work: 0, arrival: 9 }; QUEUE]);
     assert_eq!(state.table, table());
 }
 
@@ -113,16 +112,47 @@ fn the_queue_keeps_stale_slots() {
     assert_eq!((ids, state.waiting), (vec![2, 3, 3, 0], 2));
 }
 
+/// So many wait, and every slot holds a good request: nothing but the count can make the state unfit.
+fn with_waiting(count: u32) -> State {
+    State { queue: [Request { id: 5, work: 1, arrival: 0 }; QUEUE], waiting: count, ..fresh() }
+}
+
 #[test]
-fn sixty_four_wait() {
+fn up_to_24_wait() {
+    assert_eq!(fresh().queue.len(), 24);
+    for count in [0, 1, 23, 24] {
+        let state = with_waiting(count);
+        assert!(state.is_fit());
+        assert!({ state }.tick().is_ok());
+        assert!({ state }.run(1, &mut [Entry::default()]).is_ok());
+    }
+    // 64 is the limit that document 01 gives.
+    for count in [25, 26, 63, 64, 65, 0x100, 0x118, 0x1_0018, u32::MAX] {
+        refused(with_waiting(count), UNFIT_STATE);
+    }
+}
+
+#[test]
+fn the_25th_is_refused() {
     let mut state = fresh();
-    for id in 0..64 {
-        state.request(id, 60_000).unwrap();
+    for id in 0..24 {
+        assert_eq!((state.waiting, state.request(id, 60_000)), (id, Ok(())));
     }
     let before = state;
-    assert_eq!(state.request(64, 60_000), Err(QUEUE_FULL));
-    assert_eq!(state.request(64, 60_001), Err(BAD_WORK));
+    assert_eq!(state.request(24, 60_000), Err(QUEUE_FULL));
+    assert_eq!(state.request(24, 60_001), Err(BAD_WORK));
     assert_eq!(state, before);
+    assert_eq!(state.waiting().iter().map(|request| request.id).collect::<Vec<_>>(), (0..24).collect::<Vec<_>>());
+}
+
+#[test]
+fn a_place_is_free_when_one_has_finished() {
+    let mut state = with_waiting(24);
+    state.table.server.place = 0;
+    assert_eq!(state.request(6, 1), Err(QUEUE_FULL));
+    assert_eq!(state.tick().unwrap().finish, Some(Finish { id: 5, response: 1 }));
+    assert_eq!((state.waiting, state.request(7, 1), state.request(8, 1)), (23, Ok(()), Err(QUEUE_FULL)));
+    assert_eq!((state.waiting, state.queue[23]), (24, Request { id: 7, work: 1, arrival: 1 }));
 }
 
 #[test]

@@ -118,11 +118,25 @@ fn drop_and_release_in_one_tick() {
 
 #[test]
 fn queue_full() {
-    let arrivals: String = (0..66).map(|id| format!("A,1,{id},1\n")).collect();
+    let arrivals: String = (0..26).map(|id| format!("A,1,{id},1\n")).collect();
     let out = output(&format!("T,0,2,1,2\nS,0,1,0,0\n{arrivals}A,2,70,1\nA,2,71,1\nR,4\n"));
     let expected =
-        "B,0,1\nB,S,0\nV,1\nX,0,T,0,0\nN,1,64,5\nN,1,65,5\nX,1,A,0,0\nF,1,0,1\nN,2,71,5\nX,2,T,0,0\nX,3,A,1,0\nF,3,1,3\nE,4,0,2,2,0\n";
+        "B,0,1\nB,S,0\nV,1\nX,0,T,0,0\nN,1,24,5\nN,1,25,5\nX,1,A,0,0\nF,1,0,1\nN,2,71,5\nX,2,T,0,0\nX,3,A,1,0\nF,3,1,3\nE,4,0,2,2,0\n";
     assert_eq!(out, expected);
+}
+
+#[test]
+fn many_in_one_tick() {
+    // 64 is the limit that document 01 gives.
+    for (count, refused) in [(23, 0), (24, 0), (25, 1), (64, 40), (100, 76)] {
+        let arrivals: String = (0..count).map(|id| format!("A,1,{id},1\n")).collect();
+        let out = output(&format!("T,0,2,1,2\nS,0,1,0,0\n{arrivals}R,200\n"));
+        let lines = |letter: &str| -> Vec<&str> { out.lines().filter(|line| line.starts_with(letter)).collect() };
+        let taken = count - refused;
+        assert_eq!(lines("N,"), (taken..count).map(|id| format!("N,1,{id},5")).collect::<Vec<_>>());
+        // The row has the even ticks.
+        assert_eq!(lines("F,"), (0..taken).map(|id| format!("F,{},{id},{}", 2 * id + 1, 2 * id + 1)).collect::<Vec<_>>());
+    }
 }
 
 #[test]

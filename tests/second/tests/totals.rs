@@ -60,8 +60,8 @@ fn a_drop_in_an_idle_tick() {
 
 #[test]
 fn requests_refused_and_finished() {
-    // 65 requests at 1, of which one is refused; the row has every other tick, and one request of two ticks is finished.
-    let arrivals: String = (0..65).map(|id| format!("A,1,{id},2\n")).collect();
+    // 25 requests at 1, of which one is refused; the row has every other tick, and one request of two ticks is finished.
+    let arrivals: String = (0..25).map(|id| format!("A,1,{id},2\n")).collect();
     let plan = format!("T,0,2,1,2\nS,0,1,0,0\n{arrivals}R,6\n");
     let out = output(&plan);
     assert_eq!([lines(&out, "N,"), lines(&out, "F,")], [1, 1]);

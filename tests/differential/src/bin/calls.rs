@@ -6,13 +6,14 @@ use std::process::exit;
 use std::time::Instant;
 
 use differential::abi::Calls;
-use differential::call::{compare, random_call, shrink, table_call, Call};
+use differential::call::{compare, random_call, shrink, slots_used, table_call, Call};
 use differential::idle;
 use differential::open::find;
 use differential::program::{all_reached, count_and_seed, write, Seen};
 use differential::random::Random;
 use differential::returns::{shown, unfit_by, CLAUSES, SHOWN};
 use differential::state;
+use differential::waiting;
 use second::table::RETURNING;
 use second::State;
 
@@ -44,7 +45,8 @@ fn main() {
     }
     println!("calls: {made} calls in {list} lists, all alike in {:.1} s", start.elapsed().as_secs_f64());
     let words: Vec<String> = CLAUSES.map(unfit_words).into_iter().chain(idle::shown_by_calls()).collect();
-    let to_reach: Vec<&str> = SHOWN.into_iter().chain(words.iter().map(String::as_str)).chain([OTHER_KINDS]).collect();
+    let to_reach: Vec<&str> =
+        SHOWN.into_iter().chain(waiting::SHOWN_BY_CALLS).chain(words.iter().map(String::as_str)).chain([OTHER_KINDS]).collect();
     if !all_reached("calls", &seen, &to_reach, count, ENOUGH) {
         exit(1);
     }
@@ -80,10 +82,12 @@ fn many_stretches(random: &mut Random) -> State {
     state::returning(random, count)
 }
 
-/// Counts how the call ends, what makes its state unfit, and what its first tick shows.
+/// Counts how the call ends, and how with a queue at its limit; what makes its state unfit; and what its first tick shows.
 fn note(seen: &mut Seen, state: &State, call: &Call) {
     let mut add = |what: String| *seen.entry(what).or_default() += 1;
-    add(ending(state, call));
+    let ending = ending(state, call);
+    waiting::shown_by_call(state, &ending).into_iter().for_each(|what| add(what.to_string()));
+    add(ending);
     if matches!(call, Call::SetUp(_) | Call::Admit(_) | Call::Damaged { .. }) {
         return;
     }
@@ -135,7 +139,7 @@ fn report(calls: &Calls, seed: u64, list: u64, fault: &Fault) {
 
 /// The parts of a state that are in use, a line each.
 fn describe(state: &State) -> String {
-    let (rows, waiting) = (state.table.n.min(16) as usize, state.waiting.min(64) as usize);
+    let (rows, waiting) = (state.table.n.min(16) as usize, slots_used(state));
     let mut text = format!(
         "clock {}, {} rows, {} waiting\n{:?}\n{:?}\n",
         state.clock, state.table.n, state.waiting, state.table.server, state.service

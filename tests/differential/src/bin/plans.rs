@@ -16,6 +16,7 @@ use differential::program::{all_reached, count_and_seed, write, Seen};
 use differential::random::Random;
 use differential::returns;
 use differential::shrink::shrink;
+use differential::waiting;
 use second::plan::{read, Plan};
 use second::State;
 
@@ -27,7 +28,8 @@ const PAIRS: [&str; 2] = ["padded pair accepted", "padded pair refused"];
 /// One plan in so many makes a pair, if it can.
 const PAIRED: u64 = 3;
 
-/// From so many plans on, each kind, all that a tick of kind 4, an idle tick and padded numbers can show, and such pairs are to be reached.
+/// From so many plans on, each kind, all that a tick of kind 4, an idle tick, a queue at its limit and padded numbers can show, and such
+/// pairs are to be reached.
 const ENOUGH: u64 = 5_000;
 
 fn main() {
@@ -45,7 +47,8 @@ fn main() {
             println!("plans: all alike in {:.1} s", start.elapsed().as_secs_f64());
             let of_idle = idle::shown_by_plans();
             let of_idle = of_idle.iter().map(String::as_str);
-            let to_reach: Vec<&str> = KINDS.into_iter().chain(returns::SHOWN).chain(of_idle).chain(padding::SHOWN).chain(PAIRS).collect();
+            let of_ticks = returns::SHOWN.into_iter().chain(of_idle).chain(waiting::SHOWN_BY_PLANS);
+            let to_reach: Vec<&str> = KINDS.into_iter().chain(of_ticks).chain(padding::SHOWN).chain(PAIRS).collect();
             if !all_reached("plans", &seen, &to_reach, count, ENOUGH) {
                 exit(1);
             }
@@ -123,11 +126,12 @@ fn note(seen: &mut Seen, output: &[u8]) {
     }
 }
 
-/// Counts the kind of a plan that is not refused, and what its ticks show of kind 4 and of idle ticks, once for each.
+/// Counts the kind of a plan that is not refused, and what its ticks show of kind 4, of idle ticks and of the queue's limit, once for each.
 fn note_kind(seen: &mut Seen, text: &[u8]) {
     let Ok(plan) = read(text) else { return };
     let mut met = BTreeSet::from([KINDS[plan.table.server.kind as usize].to_string()]);
-    replay(&plan, |before| {
+    replay(&plan, |before, presented, refused| {
+        met.extend(waiting::shown_by_tick(presented, refused, before.waiting).into_iter().map(String::from));
         met.extend(returns::shown(before).into_iter().map(String::from));
         met.extend(idle::shown(before));
     });
@@ -144,16 +148,18 @@ fn note_padding(seen: &mut Seen, case: &Case) {
     }
 }
 
-/// The state before each tick of a plan, by the second implementation.
-fn replay(plan: &Plan, mut look: impl FnMut(&State)) {
+/// The state before each tick of a plan, by the second implementation, with the requests presented and refused before it.
+fn replay(plan: &Plan, mut look: impl FnMut(&State, u32, u32)) {
     let mut state = State::set_up(plan.table).expect("a read plan's table keeps its limits");
     let mut arrivals = plan.arrivals.iter().peekable();
     for t in 0..plan.ticks {
+        let (mut presented, mut refused) = (0, 0);
         while let Some(arrival) = arrivals.next_if(|arrival| arrival.tick == t) {
+            presented += 1;
             // A full queue refuses, and the plan goes on.
-            let _ = state.request(arrival.id, arrival.work);
+            refused += state.request(arrival.id, arrival.work).is_err() as u32;
         }
-        look(&state);
+        look(&state, presented, refused);
         state.tick().expect("a plan's ticks stay below the last clock");
     }
 }

@@ -15,13 +15,13 @@ use Rattle.queue.proofs.Queue.fits.Statement.{statement}
 use Rattle.queue.proofs.Queue.fits.Tie as tie
 
 abbrev Inv-loop : tie.InvT-loop
-Inv-loop clock n requests end i₀ i = (i ≤ n) × (all (requestFits clock) (take i requests) ≡ true)
+Inv-loop clock waiting requests end i₀ i = (i ≤ waiting) × (all (requestFits clock) (take i requests) ≡ true)
 
 abbrev μ-loop : tie.MeasureT-loop
-μ-loop clock n requests end i₀ i = n - i
+μ-loop clock waiting requests end i₀ i = waiting - i
 
 returns : tie.Need-returns Inv-loop μ-loop
-returns c = rw (lt-leb _ _ (c .if1 .taken))
+returns c = rw (lt-leb (c .before .args .self .n) maxWaiting (omega arith))
 
 cast-end : tie.Need-cast-end Inv-loop μ-loop
 cast-end c = search needs

@@ -13,7 +13,7 @@ returns : tie.Need-returns
 returns c = serve-none (c .before .args .t1 .requests) (c .before .args .t1 .n) (c .if1 .taken)
 
 returns-2 : tie.Need-returns-2
-returns-2 c = rw (lt-leb _ _ (c .if2 .taken))
+returns-2 c = rw (lt-leb (c .before .before .args .t1 .n) maxWaiting (omega arith))
 
 element-copy-out-head : tie.Need-element-copy-out-head
 element-copy-out-head c = search needs

@@ -153,7 +153,7 @@ fn progress(kind: u32) {
     cases(kind, b'r', 0, false, &[100, 4000060000, 4000060001]);
 }
 
-// Slots 0 to 2 are in use, slot 3 is not.
+// Slots 0 to 2 are in use, slot 3 is not. 64 might wait before 6/13.
 fn queue(kind: u32) {
     cases(kind, b'q', 0, false, &[0, 1, 23, 24, 25, 64, 4294967295]);
     cases(kind, b'w', 0, false, &[0, 1, 60000, 60001]);

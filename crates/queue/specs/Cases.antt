@@ -19,9 +19,9 @@ ask i w a = record { id = i; work = w; arrival = a }
 abbrev three : Queue
 three = record { requests = ask 7 1 3 ∷ ask 8 2 5 ∷ ask 9 9 9 ∷ []; n = 2 }
 
--- every slot with one tick of work, and n of them in use
-abbrev many : ℕ → Queue
-many n = record { requests = replicate maxWaiting (ask 7 1 3); n = n }
+-- every slot holds r, and n are in use
+abbrev pub filled : Request → ℕ → Queue
+filled r n = record { requests = replicate maxWaiting r; n = n }
 
 pub record QueueCases : Type 0 where
   pub fresh-slots : length (freshQueue .requests) ≡ 24
@@ -44,9 +44,9 @@ pub record QueueCases : Type 0 where
   pub arrival-limits : map (λ a. requestFits 5 (ask 0 1 a)) (0 ∷ 5 ∷ 6 ∷ []) ≡ true ∷ true ∷ false ∷ []
   pub every-request : requestsFit 5 (ask 0 1 5 ∷ ask 0 0 5 ∷ []) ≡ false
   -- 6/13: 24 may wait: a 25th is not taken, and a queue that says 25 is not fit and is not served
-  pub fits-limits : map (λ n. queueFits 5 (many n)) (23 ∷ 24 ∷ 25 ∷ []) ≡ true ∷ true ∷ false ∷ []
-  pub push-limits : map (λ n. pushedQueue (many n) 4 6 5 .n) (23 ∷ 24 ∷ 25 ∷ []) ≡ 24 ∷ 24 ∷ 25 ∷ []
-  pub serve-limits : map (λ n. servedQueue (many n) .n) (24 ∷ 25 ∷ []) ≡ 23 ∷ 25 ∷ []
+  pub fits-limits : map (λ n. queueFits 5 (filled (ask 7 1 3) n)) (23 ∷ 24 ∷ 25 ∷ []) ≡ true ∷ true ∷ false ∷ []
+  pub push-limits : map (λ n. pushedQueue (filled (ask 7 1 3) n) 4 6 5 .n) (23 ∷ 24 ∷ 25 ∷ []) ≡ 24 ∷ 24 ∷ 25 ∷ []
+  pub serve-limits : map (λ n. servedQueue (filled (ask 7 1 3) n) .n) (24 ∷ 25 ∷ []) ≡ 23 ∷ 25 ∷ []
 
 pub queue-cases : QueueCases
 unfolding overlay

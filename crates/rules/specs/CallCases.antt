@@ -7,7 +7,7 @@ use lib.ListN.{replicate}
 use Rattle.lists.specs.Lists.{overlay}
 use Rattle.server.specs.declared.Stretch.{Stretch}
 use Rattle.server.specs.Returns.{maxHeld, freshReturns}
-use Rattle.queue.specs.Queue.{maxWaiting}
+use Rattle.queue.specs.Cases.{filled}
 use Rattle.table.specs.declared.State.{State}
 use Rattle.table.specs.Refusal.{number, numberOf}
 use Rattle.table.specs.Model.{modelOf}
@@ -36,7 +36,7 @@ abbrev waiting : ℕ → State
 waiting n = record {
   table = base .table;
   progress = base .progress;
-  queue = record { requests = replicate maxWaiting (record { id = 7; work = 4; arrival = 0 }); n = n };
+  queue = filled (record { id = 7; work = 4; arrival = 0 }) n;
   returns = freshReturns;
 }
 

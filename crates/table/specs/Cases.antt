@@ -10,7 +10,8 @@ use Rattle.server.specs.Whole.{whole}
 use Rattle.server.specs.declared.Server.{Server}
 use Rattle.server.specs.declared.Stretch.{Stretch}
 use Rattle.queue.specs.declared.Queue.{Queue}
-use Rattle.queue.specs.Queue.{maxWaiting, freshQueue, queueWith}
+use Rattle.queue.specs.Queue.{freshQueue, queueWith}
+use Rattle.queue.specs.Cases.{filled}
 use Rattle.table.specs.declared.Task.{Task}
 use Rattle.table.specs.declared.Table.{Table}
 use Rattle.table.specs.declared.State.{State}
@@ -66,10 +67,6 @@ stood s left b tr begin nr clock q = record {
 
 abbrev waiting : ℕ → ℕ → Queue
 waiting w a = queueWith freshQueue (record { id = 0; work = w; arrival = a } ∷ [])
-
--- the first n slots in use, each with a work of 1
-abbrev many : ℕ → Queue
-many n = record { requests = replicate maxWaiting (record { id = 0; work = 1; arrival = 0 }); n = n }
 
 pub record LimitCases : Type 0 where
   -- "1 ≤ e ≤ D ≤ p ≤ 60,000 and f ≤ 60,000"
@@ -133,7 +130,7 @@ pub record LimitCases : Type 0 where
   pub work-past : fit (stood fine [] 2 0 0 0 9 (waiting 60_001 9)) ≡ false
   pub arrival-past : fit (stood fine [] 2 0 0 0 9 (waiting 1 10)) ≡ false
   -- 6/13: 24 may wait, and 64, the limit before it, may not
-  pub waiting-limits : map (λ n. fit (stood fine [] 2 0 0 0 9 (many n))) (23 ∷ 24 ∷ 25 ∷ 64 ∷ []) ≡ true ∷ true ∷ false ∷ false ∷ []
+  pub waiting-limits : map (λ n. fit (stood fine [] 2 0 0 0 9 (filled (record { id = 0; work = 1; arrival = 0 }) n))) (23 ∷ 24 ∷ 25 ∷ 64 ∷ []) ≡ true ∷ true ∷ false ∷ false ∷ []
   pub table-unfit : fit (stood (server 5 0 5 2) [] 2 0 0 0 9 freshQueue) ≡ false
   -- 3/13: of kind 4 alone, held ticks plus b are B; here none is held and B is 2
   pub less-budget : map (λ k. fit (stood (server k 0 5 2) [] 1 0 0 0 9 freshQueue)) (1 ∷ 2 ∷ 3 ∷ 4 ∷ []) ≡ true ∷ true ∷ true ∷ false ∷ []

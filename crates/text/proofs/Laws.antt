@@ -1,12 +1,13 @@
 -- Laws of the number writer: a turn of the search for the width, and a turn of the writing.
-use Prim.Native.Nat.{ℕ, zero, suc, _+_, _-_, _^_, _≤_, _<_, _/_, _%_}
-use mathlib.Core.Path.{_≡_, refl, sym, ap, _∙_, subst}
-use mathlib.Core.List.{List, [], _∷_, _++_, append-nil}
-use mathlib.Core.Bool.{Bool, true, false}
+use Prim.Native.Nat.{ℕ, suc, _+_, _-_, _*_, _/_, _%_, _^_, _≤_, _<_}
+use mathlib.Core.Path.{_≡_, refl, sym, ap, _∙_}
+use mathlib.Core.List.{List, [], _∷_}
+use mathlib.Core.Bool.{true, false}
 use native.Mathlib.Omega.{arith}
+use native.Mathlib.Nat.{pow-suc, pow-le-pow-right, zero-lt-suc}
 use native.Mathlib.Numerals.{add-one}
-use lib.ListN.{length, set, length-set, length-append}
-use lib.Seq.{sets}
+use lib.ListN.{set}
+use lib.Seq.{sets, set-comm}
 use lib.Dec.{ltb}
 use Rattle.text.specs.Decimal.{maxDigits, widthFrom, widthOf, digitsOf, decimal}
 use Rattle.text.specs.Buffer.{Wrote}
@@ -38,32 +39,39 @@ module _ (x w : ℕ) (h : w < maxDigits) where
       let k : maxDigits - 1 - w ≡ maxDigits - (w + 1) = omega arith in
       ap (λ (k : ℕ). widthFrom k w x) left-suc ∙ width-next x (maxDigits - 1 - w) w e ∙ ap (λ (k : ℕ). widthFrom k (w + 1) x) k
 
--- a turn of the number writer: what is left to write, from here
-pub digit-on :
-    (l : List ℕ) (at w i x : ℕ) → i < w
-    → sets l (at + i) (digitsOf (w - i) x) ≡ sets (set l (at + i) (48 + x / 10 ^ (w - 1 - i) % 10)) (at + (i + 1)) (digitsOf (w - (i + 1)) x)
+-- ---- powers of ten. 02: "works each power out by repeated multiplication": ten times a digit's power is the next digit's
+pub power-next : (p i : ℕ) → p ≡ 10 ^ i → p * 10 ≡ 10 ^ (i + 1)
+power-next p i e = ap (λ (n : ℕ). n * 10) e ∙ sym (pow-suc 10 i) ∙ ap (λ (n : ℕ). 10 ^ n) (sym (add-one i))
+
+-- the powers of all digits are numbers of 32 bits
+pub power-fits : (p i : ℕ) → p ≡ 10 ^ i → i + 1 < maxDigits → p * 10 < 2 ^ 32
+power-fits p i e h =
+    let k : i + 1 ≤ maxDigits - 1 = omega arith in
+    let most : 10 ^ (i + 1) ≤ 10 ^ (maxDigits - 1) = pow-le-pow-right (zero-lt-suc 9) k in
+    omega (arith, power-next p i e)
+
+-- ---- the digits, last one first
+-- a store before a run of stores is as good as one made first
+set-before : (vs l : List ℕ) (i j a : ℕ) → j < i → set (sets l i vs) j a ≡ sets (set l j a) i vs
+set-before [] l i j a h = refl
+set-before (v ∷ vs) l i j a h =
+    set-before vs (set l i v) (suc i) j a (omega arith) ∙ ap (λ (k : List ℕ). sets k (suc i) vs) (set-comm l i j v a (λ e. omega arith))
+
+-- a turn of the number writer: with its power the digit before the last i is written
+pub digit-before :
+    (l out : List ℕ) (at w last i x p : ℕ) → last + 1 ≡ at + w → i < w → p ≡ 10 ^ i → out ≡ sets l (at + (w - i)) (digitsOf i x)
+    → set out (last - i) (48 + x / p % 10) ≡ sets l (at + (w - (i + 1))) (digitsOf (i + 1) x)
 unfolding digitsOf
-digit-on l at w i x h =
-    let a : w - i ≡ suc (w - 1 - i) = omega arith in
-    let b : w - (i + 1) ≡ w - 1 - i = omega arith in
-    let c : at + (i + 1) ≡ suc (at + i) = omega arith in
-    rw (a, b, c) refl
+digit-before l out at w last i x p e h q d =
+    let a : last - i ≡ at + (w - (i + 1)) = omega arith in
+    let b : at + (w - i) ≡ suc (at + (w - (i + 1))) = omega arith in
+    rw (d, q, a, b, add-one i) (set-before (digitsOf i x) l _ _ _ (omega arith))
 
-pub digits-done : (l : List ℕ) (at w i x : ℕ) → w ≤ i → sets l (at + i) (digitsOf (w - i) x) ≡ l
-unfolding digitsOf
-digits-done l at w i x h = let a : w - i ≡ 0 = omega arith in rw a refl
-
-pub digits-start : (l : List ℕ) (at w x : ℕ) → sets l at (digitsOf w x) ≡ sets l (at + 0) (digitsOf (w - 0) x)
-digits-start l at w x =
-    let a : at + 0 ≡ at = omega arith in
-    let b : w - 0 ≡ w = omega arith in
-    rw (a, b) refl
-
-pub wrote-number :
-    (l out : List ℕ) (at w i x : ℕ) → w ≡ widthOf x → w ≤ i → sets l at (digitsOf w x) ≡ sets out (at + i) (digitsOf (w - i) x)
-    → Wrote l at (decimal x) out (at + w)
+-- all digits stand in their places
+pub wrote-number : (l out : List ℕ) (at w i x : ℕ) → w ≡ widthOf x → i ≡ w → out ≡ sets l (at + (w - i)) (digitsOf i x) → Wrote l at (decimal x) out (at + w)
 unfolding decimal
-wrote-number l out at w i x e h q = record {
-  bytes = sym (q ∙ digits-done out at w i x h) ∙ ap (λ (n : ℕ). sets l at (digitsOf n x)) e;
-  next = omega (arith, length-digits (widthOf x) x);
-}
+wrote-number l out at w i x e h d =
+    let a : at + (w - i) ≡ at = omega arith in record {
+      bytes = d ∙ rw (a, h, e) refl;
+      next = omega (arith, length-digits (widthOf x) x);
+    }

@@ -1,7 +1,7 @@
 -- Numbers at the edges and a line of document 01's listing, computed.
-use Prim.Native.Nat.{ℕ}
 use mathlib.Core.Path.{_≡_, refl}
-use mathlib.Core.List.{List, [], _∷_}
+use mathlib.Core.List.{[], _∷_, map}
+use lib.ListN.{replicate}
 use Rattle.text.specs.Decimal.{widthFrom, widthOf, digitsOf, decimal}
 use Rattle.text.specs.declared.Part.{Part}
 use Rattle.text.specs.Lines.{lineBytes}
@@ -20,15 +20,14 @@ largest : decimal 4294967295 ≡ 52 ∷ 50 ∷ 57 ∷ 52 ∷ 57 ∷ 54 ∷ 55 �
 unfolding rules
 largest = refl
 
--- 999999999
-nine-digits : decimal 999999999 ≡ 57 ∷ 57 ∷ 57 ∷ 57 ∷ 57 ∷ 57 ∷ 57 ∷ 57 ∷ 57 ∷ []
+-- the numbers at the edges of the powers of ten: the last with 1 to 9 digits, and the first with one digit more
+lasts : map decimal (9 ∷ 99 ∷ 999 ∷ 9999 ∷ 99999 ∷ 999999 ∷ 9999999 ∷ 99999999 ∷ 999999999 ∷ []) ≡ map (λ n. replicate n 57) (1 ∷ 2 ∷ 3 ∷ 4 ∷ 5 ∷ 6 ∷ 7 ∷ 8 ∷ 9 ∷ [])
 unfolding rules
-nine-digits = refl
+lasts = refl
 
--- 1000000000
-ten-digits : decimal 1000000000 ≡ 49 ∷ 48 ∷ 48 ∷ 48 ∷ 48 ∷ 48 ∷ 48 ∷ 48 ∷ 48 ∷ 48 ∷ []
+firsts : map decimal (10 ∷ 100 ∷ 1000 ∷ 10000 ∷ 100000 ∷ 1000000 ∷ 10000000 ∷ 100000000 ∷ 1000000000 ∷ []) ≡ map (λ n. 49 ∷ replicate n 48) (1 ∷ 2 ∷ 3 ∷ 4 ∷ 5 ∷ 6 ∷ 7 ∷ 8 ∷ 9 ∷ [])
 unfolding rules
-ten-digits = refl
+firsts = refl
 
 -- X,3,A,7,0
 a-line : lineBytes (record { letter = 88; first = Part.Number 3; second = Part.Letter 65; third = Part.Number 7; fourth = Part.Number 0; fifth = Part.Nothing }) ≡

@@ -1,7 +1,7 @@
 // Numbers and lines as bytes in a lent buffer.
 ghost use mathlib.Core.Path.{_≡_};
 ghost use mathlib.Core.List.{List, [], _∷_};
-ghost use Prim.Native.Nat.{ℕ, _+_, _^_, _<_, _≤_};
+ghost use Prim.Native.Nat.{ℕ, _+_, _<_, _≤_};
 ghost use lib.ListN.{length};
 ghost use Rattle.text.specs.Decimal.{maxDigits, widthOf, decimal};
 ghost use Rattle.text.specs.Buffer.{Wrote, ifRoom};
@@ -9,20 +9,6 @@ ghost use Rattle.text.specs.Lines.{partRoom, lineRoom, partBytes, lineBy
 
 // "A number is 1 to 10 digits."
 pub const MAX_DIGITS: usize = 10;
-
-// "Decimal digits are printed from a ten-entry table of powers of ten."
-const POWERS: [u32; MAX_DIGITS] = [
-    1,
-    10,
-    100,
-    1000,
-    10000,
-    100000,
-    1000000,
-    10000000,
-    100000000,
-    1000000000,
-];
 
 // One part of a line, after its comma.
 pub enum Part {
@@ -44,27 +30,21 @@ pub struct Line {
 // The most bytes a line has: its letter, five parts of a comma and a number, and the line feed.
 pub const LINE_ROOM: usize = 2 + 5 * (1 + MAX_DIGITS);
 
-// A power of ten, from the table.
-fn power(i: usize) -> u32
-    requires { ⌜ i < maxDigits ⌝ }
-    ensures { λ r. ⌜ r ≡ 10 ^ i ⌝ }
-{
-    POWERS[i]
-}
-
-// The number of digits of x.
+// The number of digits of x: one more for each power of ten that x reaches. Each comes from the one before it: 02: "works each power out by
+// repeated multiplication".
 fn width(x: u32) -> usize
     ensures { λ r. ⌜ (r ≡ widthOf x) × (1 ≤ r) × (r ≤ maxDigits) ⌝ }
 {
     let mut w: usize = 1;
-    while w < MAX_DIGITS {
-        let p = power(w);
-        if x < p {
+    let mut limit: u32 = 10;
+    while limit <= x {
+        w += 1;
+        if w == MAX_DIGITS {
             return w;
         }
-        w += 1;
+        limit = limit * 10;
     }
-    MAX_DIGITS
+    w
 }
 
 // Writes a byte at a place, and says where the next byte goes.
@@ -76,20 +56,24 @@ fn put(out: &mut [u8], at: usize, b: u8) -> usize
     at + 1
 }
 
-// Writes x at a place, highest digit first.
+// Writes x at a place, its last digit first, so that here too each power of ten comes from the one before it.
 fn number(out: &mut [u8], at: usize, x: u32) -> usize
     requires { ⌜ at + maxDigits ≤ length (now out) ⌝ }
     ensures { λ r. ⌜ (r ≤ at + maxDigits) × (Wrote (now (out .entry)) at (decimal x) (now (out .exit)) r) ⌝ }
 {
     let w = width(x);
+    let last = at + w - 1;
     let mut i: usize = 0;
-    while i < w {
-        let p = power(w - 1 - i);
-        let d = x / p % 10;
-        out[at + i] = (48 + d) as u8;
+    let mut power: u32 = 1;
+    loop {
+        let d = x / power % 10;
+        out[last - i] = (48 + d) as u8;
         i += 1;
+        if i == w {
+            return at + w;
+        }
+        power = power * 10;
     }
-    at + w
 }
 
 // A comma and a number.

@@ -4,6 +4,7 @@
 pub mod abi;
 pub mod call;
 pub mod convert;
+pub mod digits;
 pub mod idle;
 pub mod open;
 pub mod padding;

@@ -4,6 +4,7 @@ use second::state::QUEUE;
 use second::table::{BACKGROUND, FIELD_MOST, RETURNING, ROWS};
 use second::{Row, Server, Table};
 
+use crate::digits;
 use crate::padding::pad_or_break;
 use crate::random::Random;
 
@@ -152,10 +153,10 @@ fn table_lines(table: &Table) -> Vec<String> {
 }
 
 fn id(random: &mut Random) -> u32 {
-    if random.once_in(8) {
-        random.pick(EDGES)
-    } else {
-        random.from(0, 99)
+    match random.below(16) {
+        0 => random.pick(EDGES),
+        1 => random.pick(&digits::edges()),
+        _ => random.from(0, 99),
     }
 }
 

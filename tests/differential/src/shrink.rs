@@ -1,17 +1,25 @@
 //! Makes a failing plan small: drops lines, then makes numbers smaller and takes zeros before them away, as long as it still fails.
 
-/// How many plans may be tried on the way.
+use std::time::{Duration, Instant};
+
+/// How many plans may be tried on the way, and for how long.
 const TRIES: usize = 3_000;
+const TIME: Duration = Duration::from_secs(10);
 
 struct Shrinker<F> {
     fails: F,
     tries: usize,
+    begun: Instant,
     lines: Vec<Vec<u8>>,
 }
 
 pub fn shrink(plan: &[u8], fails: impl Fn(&[u8]) -> bool) -> Vec<u8> {
     let lines = plan.split_inclusive(|&byte| byte == b'\n').map(<[u8]>::to_vec).collect();
-    let mut shrinker = Shrinker { fails, tries: 0, lines };
+    let mut shrinker = Shrinker { fails, tries: 0, begun: Instant::now(), lines };
+    // The ticks first: with fewer of them each further try is quicker.
+    if let Some(last) = shrinker.lines.len().checked_sub(1) {
+        shrinker.shorten_line(last);
+    }
     while shrinker.drop_lines() | shrinker.shorten_numbers() {}
     shrinker.lines.concat()
 }
@@ -20,7 +28,7 @@ impl<F: Fn(&[u8]) -> bool> Shrinker<F> {
     /// Takes the smaller lines if the plan still fails with them.
     fn keep(&mut self, smaller: Vec<Vec<u8>>) -> bool {
         self.tries += 1;
-        let fails = self.tries <= TRIES && (self.fails)(&smaller.concat());
+        let fails = self.tries <= TRIES && self.begun.elapsed() < TIME && (self.fails)(&smaller.concat());
         if fails {
             self.lines = smaller;
         }
@@ -48,13 +56,12 @@ impl<F: Fn(&[u8]) -> bool> Shrinker<F> {
     }
 
     fn shorten_numbers(&mut self) -> bool {
-        let mut shortened = false;
-        for line in 0..self.lines.len() {
-            for field in 1..self.lines[line].split(|&byte| byte == b',').count() {
-                shortened |= self.shorten(line, field);
-            }
-        }
-        shortened
+        (0..self.lines.len()).fold(false, |shortened, line| shortened | self.shorten_line(line))
+    }
+
+    fn shorten_line(&mut self, line: usize) -> bool {
+        let fields = self.lines[line].split(|&byte| byte == b',').count();
+        (1..fields).fold(false, |shortened, field| shortened | self.shorten(line, field))
     }
 
     fn shorten(&mut self, line: usize, field: usize) -> bool {

@@ -1,40 +1,39 @@
--- `text::number` meets its contract. The invariant: what is left to write, written from here, gives the buffer with all digits written.
-use Rattle.text.specs.ReadBack.{ten-pos}
-use Rattle.text.proofs.Laws.{digits-start, digit-on, wrote-number}
-use Rattle.text.specs.Decimal.{maxDigits, widthOf, digitsOf}
-use lib.ListN.{length-set}
-use lib.Seq.{sets}
-use lib.ListN.{length}
-use Prim.Native.Nat.{_≤_, _-_, _+_}
-use mathlib.Core.Path.{_≡_, refl, _∙_}
+-- `text::number` meets its contract. The invariant: the last i digits stand in their places, and the power is that of the digit before them.
+use Prim.Native.Nat.{_+_, _-_, _^_, _≤_, _<_}
+use mathlib.Core.Path.{_≡_, refl}
 use native.Mathlib.Omega.{arith}
 use borrow.Author.Needs.{needs}
+use lib.ListN.{length, length-set}
+use lib.Seq.{sets}
+use Rattle.text.specs.Decimal.{maxDigits, widthOf, digitsOf}
+use Rattle.text.specs.ReadBack.{ten-pos}
+use Rattle.text.proofs.Laws.{power-next, power-fits, digit-before, wrote-number}
 use Rattle.text.proofs.number.Statement.{statement}
 use Rattle.text.proofs.number.Tie as tie
 
 abbrev Inv-loop : tie.InvT-loop
-Inv-loop out₀ at x w i₀ out i = (w ≡ widthOf x) × (1 ≤ w) × (w ≤ maxDigits) × (i ≤ w) × (length out ≡ length out₀) × (sets out₀ at (digitsOf w x) ≡ sets out (at + i) (digitsOf (w - i) x))
+Inv-loop out₀ at x w last i₀ power₀ out i power =
+    (w ≡ widthOf x) × (w ≤ maxDigits) × (last + 1 ≡ at + w) × (i < w) × (power ≡ 10 ^ i) × (length out ≡ length out₀)
+    × (out ≡ sets out₀ (at + (w - i)) (digitsOf i x))
 
 abbrev μ-loop : tie.MeasureT-loop
-μ-loop out₀ at x w i₀ out i = w - i
+μ-loop out₀ at x w last i₀ power₀ out i power = w - i
 
 width-requires : tie.Need-width-requires Inv-loop μ-loop
 width-requires c κs = search needs
 
+add-last : tie.Need-add-last Inv-loop μ-loop
+add-last c = search needs
+
+sub-last : tie.Need-sub-last Inv-loop μ-loop
+sub-last c = search needs
+
 loop-holds : tie.Need-loop-holds Inv-loop μ-loop
-loop-holds c = (c .width .ensures .0, c .width .ensures .1, c .width .ensures .2, omega arith, refl, digits-start _ _ _ _)
-
-sub-power : tie.Need-sub-power Inv-loop μ-loop
-sub-power c = search needs
-
-sub-power-2 : tie.Need-sub-power-2 Inv-loop μ-loop
-sub-power-2 c = search needs
-
-power-requires : tie.Need-power-requires Inv-loop μ-loop
-power-requires c κs = search needs
+unfolding digitsOf
+loop-holds c = (c .width .ensures .0, c .width .ensures .2, omega arith, omega arith, refl, refl, refl)
 
 div-d : tie.Need-div-d Inv-loop μ-loop
-div-d c = rw (c .power .ensures) (ten-pos _)
+div-d c = rw (c .loop .inv .4) (ten-pos _)
 
 add-out : tie.Need-add-out Inv-loop μ-loop
 add-out c = search needs
@@ -42,29 +41,14 @@ add-out c = search needs
 cast-out : tie.Need-cast-out Inv-loop μ-loop
 cast-out c = search needs
 
-add-out-2 : tie.Need-add-out-2 Inv-loop μ-loop
-add-out-2 c = search needs
+sub-out : tie.Need-sub-out Inv-loop μ-loop
+sub-out c = search needs
 
 slice-write-out : tie.Need-slice-write-out Inv-loop μ-loop
 slice-write-out c = search needs
 
 add-i : tie.Need-add-i Inv-loop μ-loop
 add-i c = search needs
-
-loop-less : tie.Need-loop-less Inv-loop μ-loop
-loop-less c = search needs
-
-loop-again : tie.Need-loop-again Inv-loop μ-loop
-loop-again c =
-    let a = c .before .before in
-    let g = a .before .before .before .args in (
-      a .loop .inv .0,
-      omega arith,
-      omega arith,
-      omega arith,
-      simp length-set (a .loop .inv .4),
-      simp (c .power .ensures) (a .loop .inv .5 ∙ digit-on (a .loop .out) (g .at) (a .before .width .result) (a .loop .i) (g .x) (c .before .loop-test .taken)),
-    )
 
 add-result : tie.Need-add-result Inv-loop μ-loop
 add-result c = search needs
@@ -74,8 +58,26 @@ same-length c = search needs
 
 returns : tie.Need-returns Inv-loop μ-loop
 returns c =
-    let a = c .before .loop in
-    (omega arith, wrote-number _ _ _ _ _ _ (a .inv .0) (c .loop-test .left) (a .inv .5))
+    let a = c .before .loop .inv in
+    (omega arith, wrote-number _ _ _ _ _ _ (a .0) (omega arith) (digit-before _ _ _ _ _ _ _ _ (a .2) (a .3) (a .4) (a .6)))
+
+mul-power : tie.Need-mul-power Inv-loop μ-loop
+mul-power c = let fits = power-fits _ _ (c .before .loop .inv .4) (omega arith) in search needs
+
+loop-less : tie.Need-loop-less Inv-loop μ-loop
+loop-less c = search needs
+
+loop-again : tie.Need-loop-again Inv-loop μ-loop
+loop-again c =
+    let a = c .before .loop .inv in (
+      a .0,
+      a .1,
+      a .2,
+      omega arith,
+      omega (arith, power-next _ _ (a .4)),
+      simp length-set (a .5),
+      digit-before _ _ _ _ _ _ _ _ (a .2) (a .3) (a .4) (a .6),
+    )
 
 pub number-spec : {M : Type 1} → statement M
 number-spec =
@@ -84,18 +86,18 @@ number-spec =
     Inv-loop
     μ-loop
     width-requires
+    add-last
+    sub-last
     loop-holds
-    sub-power
-    sub-power-2
-    power-requires
     div-d
     add-out
     cast-out
-    add-out-2
+    sub-out
     slice-write-out
     add-i
-    loop-less
-    loop-again
     add-result
     same-length
-    returns)
+    returns
+    mul-power
+    loop-less
+    loop-again)

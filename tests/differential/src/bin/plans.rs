@@ -1,5 +1,6 @@
 //! `plans PROGRAM [COUNT] [SEED]`: the program's output for random plans, against the second implementation, byte for byte. And against
-//! itself: zeros before a plan's numbers, up to ten digits in each, change nothing of what is printed (document 02, 4/13).
+//! itself: zeros before a plan's numbers, up to ten digits in each, change nothing of what is printed (document 02, 4/13). Plan 0, before the
+//! random ones, is the same in every run: it prints numbers at the edges of the powers of ten (7/13).
 //! A plan that tells them apart is made small and written to target/differential/.
 
 use std::collections::BTreeSet;
@@ -9,6 +10,7 @@ use std::sync::atomic::{AtomicBool, Ordering};
 use std::thread;
 use std::time::Instant;
 
+use differential::digits;
 use differential::idle;
 use differential::padding::{self, padded_form, plain};
 use differential::plan::plan;
@@ -28,8 +30,8 @@ const PAIRS: [&str; 2] = ["padded pair accepted", "padded pair refused"];
 /// One plan in so many makes a pair, if it can.
 const PAIRED: u64 = 3;
 
-/// From so many plans on, each kind, all that a tick of kind 4, an idle tick, a queue at its limit and padded numbers can show, and such
-/// pairs are to be reached.
+/// From so many plans on, each kind, all that a tick of kind 4, an idle tick, a queue at its limit, padded numbers and the edges of the
+/// powers of ten can show, and such pairs are to be reached.
 const ENOUGH: u64 = 5_000;
 
 fn main() {
@@ -48,7 +50,7 @@ fn main() {
             let of_idle = idle::shown_by_plans();
             let of_idle = of_idle.iter().map(String::as_str);
             let of_ticks = returns::SHOWN.into_iter().chain(of_idle).chain(waiting::SHOWN_BY_PLANS);
-            let to_reach: Vec<&str> = KINDS.into_iter().chain(of_ticks).chain(padding::SHOWN).chain(PAIRS).collect();
+            let to_reach: Vec<&str> = KINDS.into_iter().chain(of_ticks).chain(padding::SHOWN).chain(digits::SHOWN).chain(PAIRS).collect();
             if !all_reached("plans", &seen, &to_reach, count, ENOUGH) {
                 exit(1);
             }
@@ -64,7 +66,7 @@ struct Case {
 
 fn case(seed: u64, index: u64) -> Case {
     let random = &mut Random::new(seed, index);
-    let plan = plan(random);
+    let plan = if index == 0 { digits::plan() } else { plan(random) };
     let padded = if random.once_in(PAIRED) { padded_form(random, &plan) } else { None };
     Case { plan, padded }
 }
@@ -75,7 +77,7 @@ fn compare(program: &str, count: u64, seed: u64) -> Result<Seen, u64> {
     let stop = AtomicBool::new(false);
     let work = |first: u64| -> Result<Seen, u64> {
         let mut seen = Seen::new();
-        for index in (first..count).step_by(workers as usize) {
+        for index in (first..=count).step_by(workers as usize) {
             if stop.load(Ordering::Relaxed) {
                 break;
             }
@@ -88,7 +90,7 @@ fn compare(program: &str, count: u64, seed: u64) -> Result<Seen, u64> {
             }
             note(&mut seen, &expected);
             note_kind(&mut seen, &case.plan);
-            note_padding(&mut seen, &case);
+            note_numbers(&mut seen, &case, &expected);
         }
         Ok(seen)
     };
@@ -140,10 +142,10 @@ fn note_kind(seen: &mut Seen, text: &[u8]) {
     }
 }
 
-/// Counts what a plan shows of padding, and the pairs.
-fn note_padding(seen: &mut Seen, case: &Case) {
+/// Counts what a plan shows of padding, the pairs, and what its output shows of the edges of the powers of ten.
+fn note_numbers(seen: &mut Seen, case: &Case, output: &[u8]) {
     let pair = case.padded.as_ref().map(|padded| PAIRS[read(padded).is_err() as usize]);
-    for what in padding::shown(&case.plan).into_iter().chain(pair) {
+    for what in padding::shown(&case.plan).into_iter().chain(pair).chain(digits::shown(output)) {
         *seen.entry(what.to_string()).or_default() += 1;
     }
 }

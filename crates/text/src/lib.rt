@@ -30,8 +30,7 @@ pub struct Line {
 // The most bytes a line has: its letter, five parts of a comma and a number, and the line feed.
 pub const LINE_ROOM: usize = 2 + 5 * (1 + MAX_DIGITS);
 
-// The number of digits of x: one more for each power of ten that x reaches. Each comes from the one before it: 02: "works each power out by
-// repeated multiplication".
+// The number of digits of x: one more for each power of ten that x reaches. 02: "works each power out by repeated multiplication".
 fn width(x: u32) -> usize
     ensures { λ r. ⌜ (r ≡ widthOf x) × (1 ≤ r) × (r ≤ maxDigits) ⌝ }
 {
@@ -56,7 +55,7 @@ fn put(out: &mut [u8], at: usize, b: u8) -> usize
     at + 1
 }
 
-// Writes x at a place, its last digit first, so that here too each power of ten comes from the one before it.
+// Writes x at a place, its last digit first: each digit's power is ten times that of the one behind it.
 fn number(out: &mut [u8], at: usize, x: u32) -> usize
     requires { ⌜ at + maxDigits ≤ length (now out) ⌝ }
     ensures { λ r. ⌜ (r ≤ at + maxDigits) × (Wrote (now (out .entry)) at (decimal x) (now (out .exit)) r) ⌝ }

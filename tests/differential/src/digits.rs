@@ -39,9 +39,16 @@ pub fn shown(printed: &[u8]) -> Vec<&'static str> {
     for line in String::from_utf8_lossy(printed).lines() {
         let number = |field: &str| field.parse::<u32>().ok();
         match line.split(',').collect::<Vec<_>>()[..] {
-            ["X", tick, "A", id, _] => drop((ticks.insert(number(tick)), ids.insert(number(id)))),
-            ["X", tick, ..] => drop(ticks.insert(number(tick))),
-            ["N", _, id, _] => drop(refused.insert(number(id))),
+            ["X", tick, "A", id, _] => {
+                ticks.insert(number(tick));
+                ids.insert(number(id));
+            }
+            ["X", tick, ..] => {
+                ticks.insert(number(tick));
+            }
+            ["N", _, id, _] => {
+                refused.insert(number(id));
+            }
             _ => (),
         }
     }

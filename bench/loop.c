@@ -124,6 +124,7 @@ static void consume(const struct pilqandur_server *v, struct pilqandur_server_st
 /* Step 5, the head request. */
 static void serve(struct pilqandur_queue *q)
 {
+    q->backlog--;
     if (q->requests[0].work > 1) {
         q->requests[0].work--;
         return;

@@ -9,7 +9,8 @@
  *
  *  - No value of an argument is outside the contract but a pointer that points to less than it says: `entries` points to
  *    `len` entries, aligned as C has them, that nobody else reads or writes during the call. A list of no entries may be
- *    NULL: pilqandur_run(state, 0, NULL, 0) is a run of no ticks, and says of any state whether it is fit.
+ *    NULL: pilqandur_run(state, 0, NULL, 0) is a run of no ticks. It says of any state whether it is fit, as
+ *    pilqandur_waiting(state) does.
  *  - Header and archive belong together where pilqandur_version() is PILQANDUR_VERSION. Ask at the start, before any other
  *    call; if they differ, compile with the header that came with the archive. Store the number beside a state: a state of
  *    another version cannot be taken up.
@@ -20,13 +21,13 @@
  *
  * A state is numbers alone, without pointers: it can be copied, stored and taken up again. Every pattern of bits is taken. A
  * state is fit if its table passes 1, 2 and 3, left[i] <= exec of each task in use, at most 24 wait, each with work 1 to 60,000
- * and arrival <= clock, budget <= the server's, clock <= 4,000,000,000, tr and begin <= clock, nr <= 4,000,060,000, and each
- * flag is 0 or 1. Under kind 4, besides: the lengths of the stretches held and budget add up to the server's budget, and the
- * stretches are at most 32, none empty, oldest first, a tick or more between each and the next, all within the server's last
- * period of ticks before the clock (clock - period to clock - 1). The other kinds do not look at the stretches, and leave them.
- * Any other state is refused with 11 and handed back as it came. But 11 is no checksum: most states in which a bit was changed
- * are still states, and are run as such: another id or work, another clock, even another table, which need not be the admitted
- * one. Keep a checksum beside a stored state (examples/c/saved.c does).
+ * and arrival <= clock, backlog is the sum of their work, budget <= the server's, clock <= 4,000,000,000, tr and begin <=
+ * clock, nr <= 4,000,060,000, and each flag is 0 or 1. Under kind 4, besides: the lengths of the stretches held and budget add
+ * up to the server's budget, and the stretches are at most 32, none empty, oldest first, a tick or more between each and the
+ * next, all within the server's last period of ticks before the clock (clock - period to clock - 1). The other kinds do not
+ * look at the stretches, and leave them. Any other state is refused with 11 and handed back as it came. But 11 is no checksum:
+ * most states in which a bit was changed are still states, and are run as such: another id, another clock, even another table,
+ * which need not be the admitted one. Keep a checksum beside a stored state (examples/c/saved.c does).
  *
  * A tick goes to the first open task above the server; else to the first waiting request, by the budget; else to the first open
  * task below; else, whatever the kind and the budget, to the first waiting request, which then takes no budget, is no service
@@ -36,8 +37,8 @@
  * A run does not report what finished: make ticks one by one where the responses are wanted.
  *
  * No function keeps anything between calls, allocates or does input or output: the archive has no data of its own, and wants
- * only memcpy, memmove and memset of the C library. State goes in by value and comes back by value: two schedulers are two
- * states. The code uses SSE registers, as x86-64 code does. The header wants C99 or C++11.
+ * only memcpy, memmove and memset of the C library. State goes in by value and comes back by value where a call may change it:
+ * two schedulers are two states. The code uses SSE registers, as x86-64 code does. The header wants C99 or C++11.
  */
 #ifndef PILQANDUR_H
 #define PILQANDUR_H
@@ -50,7 +51,7 @@ extern "C" {
 #endif
 
 /* The number of this header. It rises with every change of a struct, a number or a meaning. */
-#define PILQANDUR_VERSION 4u
+#define PILQANDUR_VERSION 5u
 
 /* The limits. Times are in ticks of 10 ms. */
 #define PILQANDUR_MAX_TASKS 16
@@ -58,6 +59,7 @@ extern "C" {
 #define PILQANDUR_MAX_STRETCHES 32
 #define PILQANDUR_MAX_TIME 60000u        /* of a phase, a period, an execution, a deadline, a server's period and budget */
 #define PILQANDUR_MAX_WORK 60000u        /* of a request */
+#define PILQANDUR_MAX_BACKLOG 1440000u   /* of the work that waits, in a fit state: 24 times 60,000 */
 #define PILQANDUR_LAST_CLOCK 4000000000u /* at it no tick runs */
 
 /* Stack, in bytes: what each call takes at most, whatever its arguments, its return address included. `tools/stack` reads it
@@ -66,9 +68,10 @@ extern "C" {
  * by value, twice with some compilers: README.md has figures with that. */
 #define PILQANDUR_STACK_SET_UP 656
 #define PILQANDUR_STACK_ADMIT 1360
-#define PILQANDUR_STACK_REQUEST 3728
-#define PILQANDUR_STACK_TICK 4832
-#define PILQANDUR_STACK_RUN 4672
+#define PILQANDUR_STACK_REQUEST 3776
+#define PILQANDUR_STACK_TICK 4848
+#define PILQANDUR_STACK_RUN 4704
+#define PILQANDUR_STACK_WAITING 2400
 
 /* Kinds of a server. */
 #define PILQANDUR_BACKGROUND 0u
@@ -82,8 +85,8 @@ extern "C" {
 #define PILQANDUR_TASK 1u
 #define PILQANDUR_REQUEST 2u
 
-/* Refusals, in `number`; 0 says that the call was carried out. A refused call hands back the state it was given. A call looks
- * at its grounds in the order that is told below, and gives the first. */
+/* Refusals, in `number`; 0 says that the call was carried out. A refused request, tick or run hands back the state it was
+ * given. A call looks at its grounds in the order that is told below, and gives the first. */
 #define PILQANDUR_DONE 0u
 #define PILQANDUR_TASK_COUNT 1u     /* no task, or more than 16 */
 #define PILQANDUR_BAD_TASK 2u       /* a task breaks its limits; `index` is the first such */
@@ -139,14 +142,16 @@ struct pilqandur_progress {
 };
 
 /* A request that waits. id is the caller's own. */
-struct pilqandur_waiting {
+struct pilqandur_queued {
     uint32_t id, work, arrival;
 };
 
-/* The first n wait, the head first. */
+/* The first n wait, the head first. Whoever fills in or mends a state by hand sets backlog too: a state in which it is not the
+ * sum is unfit. */
 struct pilqandur_queue {
-    struct pilqandur_waiting requests[PILQANDUR_MAX_WAITING];
+    struct pilqandur_queued requests[PILQANDUR_MAX_WAITING];
     uint32_t n;
+    uint32_t backlog; /* the ticks of work that wait: the sum of `work` over the first n */
 };
 
 /* Ticks on end that a server of kind 4 served: `length` of them from `start` on. */
@@ -203,6 +208,11 @@ struct pilqandur_tick_result {
     struct pilqandur_state state;
 };
 
+/* work is the ticks of work that wait; 0 where the call was refused. */
+struct pilqandur_waiting_result {
+    uint32_t number, work;
+};
+
 /* The number of the header that the archive belongs to. */
 uint32_t pilqandur_version(void);
 
@@ -221,10 +231,18 @@ struct pilqandur_tick_result pilqandur_tick(struct pilqandur_state state);
 /* k ticks; the first k of the len lent entries are written, the others stay. Refuses with 11, 6, 10. */
 struct pilqandur_moved_result pilqandur_run(struct pilqandur_state state, uint32_t k, struct pilqandur_entry *entries, size_t len);
 
+/* The work that waits, for a front panel: the ticks of 10 ms that the waiting requests still need, the head included. A request
+ * that is taken adds its work, and each tick that goes to a request, by the budget or not, takes one off; every other tick and
+ * every refused call leaves the figure. 0: nobody waits. It is not how long the last request will take to finish: to it come
+ * the ticks that tasks have meanwhile. The figure is queue.backlog; the queue is walked only to see whether the state is fit, as
+ * in every call. The state is not changed, so none comes back. Refuses with 11. */
+struct pilqandur_waiting_result pilqandur_waiting(struct pilqandur_state state);
+
 /* ---- The same for a state that the caller keeps and hands out by its address: plain C over the calls above, tested and not
  * proved. Each returns the number, and changes the state only where the call was carried out (number 0); a refused set-up, too,
  * leaves the state that was there. Each reads *state, works on a copy and writes it back: nobody else may use *state meanwhile,
- * no other thread and no interrupt. Let an interrupt note its request, and hand it in between two ticks. */
+ * no other thread and no interrupt. Let an interrupt note its request, and hand it in between two ticks. pilqandur_waiting_at
+ * only reads *state, but nobody may write it meanwhile: let whoever makes the ticks ask, and hand the figure to the panel. */
 
 /* What a tick says, without its state. */
 struct pilqandur_ticked {
@@ -274,6 +292,15 @@ static inline uint32_t pilqandur_run_at(struct pilqandur_state *state, uint32_t 
     if (moved.number == PILQANDUR_DONE)
         *state = moved.state;
     return moved.number;
+}
+
+/* *work is written only where the call was carried out. work may be NULL. */
+static inline uint32_t pilqandur_waiting_at(const struct pilqandur_state *state, uint32_t *work)
+{
+    const struct pilqandur_waiting_result waiting = pilqandur_waiting(*state);
+    if (work && waiting.number == PILQANDUR_DONE)
+        *work = waiting.work;
+    return waiting.number;
 }
 
 #ifdef __cplusplus

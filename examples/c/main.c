@@ -1,4 +1,5 @@
-/* Document 01's listing from C: one task, a deferrable server, a request at tick 3, eight ticks. Every number that comes back is looked at. */
+/* Document 01's listing from C: one task, a deferrable server, a request at tick 3, eight ticks; and after the run, the request and each tick what
+ * a front panel shows, the ticks of work that wait. Every number that comes back is looked at. */
 #include <stdio.h>
 #include <stdlib.h>
 
@@ -17,6 +18,14 @@ static void show(uint32_t tick, uint32_t kind, uint32_t id, uint32_t drops)
 {
     const char letter = kind == PILQANDUR_TASK ? 'T' : kind == PILQANDUR_REQUEST ? 'A' : 'I';
     printf("X,%u,%c,%u,%u\n", (unsigned)tick, letter, (unsigned)id, (unsigned)drops);
+}
+
+/* The front panel. */
+static void panel(const struct pilqandur_state *state)
+{
+    uint32_t work;
+    done("waiting", pilqandur_waiting_at(state, &work));
+    printf("work waiting %u\n", (unsigned)work);
 }
 
 int main(void)
@@ -43,8 +52,10 @@ int main(void)
     done("run", pilqandur_run_at(&state, 3, entries, 3));
     for (uint32_t t = 0; t < 3; t++)
         show(t, entries[t].kind, entries[t].id, entries[t].drops);
+    panel(&state);
 
     done("request", pilqandur_request_at(&state, 7, 4));
+    panel(&state);
 
     /* five ticks one by one, which also say what they finish */
     for (uint32_t t = 3; t < 8; t++) {
@@ -53,6 +64,7 @@ int main(void)
         show(t, ticked.kind, ticked.id, ticked.drops);
         if (ticked.finished)
             printf("F,%u,%u,%u\n", (unsigned)t, (unsigned)ticked.request, (unsigned)ticked.response);
+        panel(&state);
     }
 
     /* a refusal: no work. The state stays as it is. */

@@ -53,7 +53,7 @@ static const char *restore(struct pilqandur_state *state, const struct record *s
         return "a wrong checksum";
     if (memcmp(&record.state.table, &table, sizeof table) != 0)
         return "another table"; /* the one that was admitted is the one to run */
-    if (pilqandur_run(record.state, 0, NULL, 0).number != PILQANDUR_DONE)
+    if (pilqandur_waiting_at(&record.state, NULL) != PILQANDUR_DONE)
         return "an unfit state"; /* it was damaged before it was saved */
     *state = record.state;
     return NULL;
@@ -115,7 +115,7 @@ int main(void)
     set_up(&state);
     done("request", pilqandur_request_at(&state, 1, 2));
     ticks(&state, 12);
-    done("request", pilqandur_request_at(&state, 2, 5));
+    done("request", pilqandur_request_at(&state, 2, 10));
     ticks(&state, 8);
 
     struct record record;
@@ -137,6 +137,13 @@ int main(void)
     printf(", the state is %s\n", memcmp(&other, &before, sizeof other) == 0 ? "as it came" : "changed");
     save(&changed, &other);
     start("a changed flag, saved with a right checksum", &changed);
+
+    /* The figure of the work that waits, one off: unfit too, as it would be with the figure kept and the request's work one off. */
+    other = state;
+    other.queue.backlog++;
+    printf("a changed figure: waiting answers %u\n", (unsigned)pilqandur_waiting_at(&other, NULL));
+    save(&changed, &other);
+    start("a changed figure, saved with a right checksum", &changed);
 
     /* A record of earlier firmware. */
     other = state;

@@ -1,8 +1,11 @@
-//! Document 01's listing from Rust: one task, a deferrable server, a request at tick 3, eight ticks. Every number that comes back is looked at.
+//! Document 01's listing from Rust: one task, a deferrable server, a request at tick 3, eight ticks; and after the run, the request and each tick
+//! what a front panel shows, the ticks of work that wait. Every number that comes back is looked at.
 
 mod pilqandur;
 
-use pilqandur::{admit, present, run, set_up, tick, version, Entry, Server, Table, Task, DEFERRABLE, DONE, REQUEST, TASK, VERSION};
+use pilqandur::{
+    admit, present, run, set_up, tick, version, waiting, Entry, Server, State, Table, Task, DEFERRABLE, DONE, REQUEST, TASK, VERSION,
+};
 
 fn show(tick: u32, entry: Entry) {
     let letter = match entry.kind {
@@ -11,6 +14,13 @@ fn show(tick: u32, entry: Entry) {
         _ => 'I',
     };
     println!("X,{tick},{letter},{},{}", entry.id, entry.drops);
+}
+
+/// The front panel.
+fn panel(state: State) {
+    let waits = waiting(state);
+    assert_eq!(waits.number, DONE);
+    println!("work waiting {}", waits.work);
 }
 
 fn main() {
@@ -31,9 +41,11 @@ fn main() {
     for (t, entry) in entries.iter().enumerate() {
         show(t as u32, *entry);
     }
+    panel(ran.state);
 
     let asked = present(ran.state, 7, 4);
     assert_eq!(asked.number, DONE);
+    panel(asked.state);
 
     // five ticks one by one, which also say what they finish
     let mut state = asked.state;
@@ -45,6 +57,7 @@ fn main() {
             println!("F,{t},{},{}", ticked.request, ticked.response);
         }
         state = ticked.state;
+        panel(state);
     }
 
     // a refusal: no work

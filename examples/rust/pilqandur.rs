@@ -3,7 +3,7 @@
 #![allow(dead_code)] // a caller need not use all of it
 
 /// The number of the header that these declarations follow: `version()` has to be it.
-pub const VERSION: u32 = 4;
+pub const VERSION: u32 = 5;
 
 /// The limits. Times are in ticks of 10 ms.
 pub const MAX_TASKS: u32 = 16;
@@ -11,6 +11,7 @@ pub const MAX_WAITING: u32 = 24;
 pub const MAX_STRETCHES: u32 = 32;
 pub const MAX_TIME: u32 = 60000;
 pub const MAX_WORK: u32 = 60000;
+pub const MAX_BACKLOG: u32 = 1440000;
 pub const LAST_CLOCK: u32 = 4000000000;
 
 /// Kinds of a server.
@@ -95,7 +96,7 @@ pub struct Progress {
 /// A request that waits.
 #[repr(C)]
 #[derive(Clone, Copy, Debug, Default, PartialEq, Eq)]
-pub struct Waiting {
+pub struct Queued {
     pub id: u32,
     pub work: u32,
     pub arrival: u32,
@@ -104,8 +105,10 @@ pub struct Waiting {
 #[repr(C)]
 #[derive(Clone, Copy, Debug, PartialEq, Eq)]
 pub struct Queue {
-    pub requests: [Waiting; MAX_WAITING as usize],
+    pub requests: [Queued; MAX_WAITING as usize],
     pub n: u32,
+    /// The ticks of work that wait: the sum of `work` over the first n.
+    pub backlog: u32,
 }
 
 /// Ticks on end that a server of kind 4 served.
@@ -178,6 +181,13 @@ pub struct TickResult {
     pub state: State,
 }
 
+#[repr(C)]
+#[derive(Clone, Copy, Debug)]
+pub struct WaitingResult {
+    pub number: u32,
+    pub work: u32,
+}
+
 unsafe extern "C" {
     fn pilqandur_version() -> u32;
     fn pilqandur_set_up(table: Table) -> SetUpResult;
@@ -185,6 +195,7 @@ unsafe extern "C" {
     fn pilqandur_request(state: State, id: u32, work: u32) -> MovedResult;
     fn pilqandur_tick(state: State) -> TickResult;
     fn pilqandur_run(state: State, k: u32, entries: *mut Entry, len: usize) -> MovedResult;
+    fn pilqandur_waiting(state: State) -> WaitingResult;
 }
 
 pub fn version() -> u32 {
@@ -215,4 +226,9 @@ pub fn tick(state: State) -> TickResult {
 pub fn run(state: State, k: u32, entries: &mut [Entry]) -> MovedResult {
     // SAFETY: the list is lent to this function alone, and goes on with its own length.
     unsafe { pilqandur_run(state, k, entries.as_mut_ptr(), entries.len()) }
+}
+
+pub fn waiting(state: State) -> WaitingResult {
+    // SAFETY: numbers by value.
+    unsafe { pilqandur_waiting(state) }
 }

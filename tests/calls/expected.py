@@ -1,5 +1,6 @@
 #!/usr/bin/env python3
-"""The second computation of the program `calls`: the same cases, worked out from document 01 and 02's 3/13, 5/13 and 6/13.
+"""The second computation of the program `calls`: the same cases, worked out from document 01 and 02's 3/13, 5/13, 6/13 and
+8/13.
 
 Nothing here is taken from the product's definitions or code but the order of a state's fields, in which the digest reads them,
 the letters on a line, and three points that document 01 leaves free: a refused set-up hands back the table's fresh state (of an
@@ -29,11 +30,11 @@ def base(kind):
     stretches = [[99, 9] for _ in range(32)]
     stretches[:2] = [[92, 2], [96, 1]]
     return dict(rows=rows, n=2, server=server, left=left, b={0: 0, 4: 1}.get(kind, 3), held=2, stretches=stretches, tr=90, begin=95, nr=0,
-                served=0, late=0, above=0, busy=1, clock=100, waiting=3, requests=requests)
+                served=0, late=0, above=0, busy=1, clock=100, waiting=3, figure=60003, requests=requests)
 
 
 LETTERS = dict(phase="f", period="p", exec="e", deadline="D", rows="n", kind="k", place="s", P="P", B="B", left="l", b="b", tr="t",
-               begin="g", nr="r", clock="c", id="i", work="w", arrival="a", waiting="q", start="S", length="L", held="h")
+               begin="g", nr="r", clock="c", id="i", work="w", arrival="a", waiting="q", figure="F", start="S", length="L", held="h")
 
 
 def label(field, value):
@@ -59,6 +60,12 @@ def put(s, field, value):
         s["left"][int(at[0])] = value
     else:
         s[dict(rows="n").get(name, name)] = value
+    if name in ("waiting", "work"):
+        s["figure"] = work_waiting(s)
+
+
+def work_waiting(s):
+    return sum(work for _, work, _ in s["requests"][:s["waiting"]])
 
 
 def digest(numbers):
@@ -71,7 +78,7 @@ def digest(numbers):
 def of(s):
     flat = [x for row in s["rows"] for x in row] + [s["n"]] + s["server"] + s["left"]
     flat += [s[k] for k in ("b", "tr", "begin", "nr", "served", "late", "above", "busy", "clock")]
-    flat += [s["waiting"]] + [x for r in s["requests"] for x in r]
+    flat += [s["waiting"], s["figure"]] + [x for r in s["requests"] for x in r]
     flat += [s["held"]] + [x for u in s["stretches"] for x in u]
     return digest(flat)
 
@@ -122,6 +129,8 @@ def unfit(s):
     queue = s["requests"][:s["waiting"]]
     if any(not 1 <= work <= LIMIT for _, work, _ in queue):
         return True
+    if s["figure"] != work_waiting(s):                    # 8/13
+        return True
     if s["b"] > s["server"][3] or s["clock"] > LAST_CLOCK:
         return True
     if any(arrival > s["clock"] for _, _, arrival in queue):
@@ -134,7 +143,7 @@ def fresh(s):
     f = copy.deepcopy(s)
     f["left"] = [0] * 16
     f["b"] = s["server"][3] if s["server"][0] in (1, 2, 3, 4) else 0
-    for k in ("tr", "begin", "nr", "served", "late", "above", "busy", "clock", "waiting", "held"):
+    for k in ("tr", "begin", "nr", "served", "late", "above", "busy", "clock", "waiting", "figure", "held"):
         f[k] = 0
     f["requests"] = [[0, 0, 0] for _ in range(WAITING)]
     f["stretches"] = [[0, 0] for _ in range(32)]
@@ -263,6 +272,7 @@ def tick(s):
         head = s["requests"][0]
         occupant = f"request {head[0]}"
         head[1] -= 1
+        s["figure"] -= 1
         if head[1] == 0:
             finished = (head[0], t + 1 - head[2])
             count = s["waiting"]
@@ -307,7 +317,12 @@ def request(s, ident, work):
     s = copy.deepcopy(s)
     s["requests"][s["waiting"]] = [ident, work, s["clock"]]
     s["waiting"] += 1
+    s["figure"] += work
     return 0, s
+
+
+def waiting(s):
+    return (11, 0) if unfit(s) else (0, s["figure"])
 
 
 def run(s, k, entries):
@@ -344,7 +359,8 @@ def state_calls(s):
     for k in (0, 32, 33):
         number, after, entries = run(s, k, [[0, 0, 0]] * 32)
         text += f"; run {number} state {of(after)} entries {digest([x for entry in entries for x in entry])}"
-    return text
+    number, work = waiting(s)
+    return text + f"; waiting {number} work {work}"
 
 
 def table_calls(s):
@@ -381,6 +397,13 @@ STATE = [
     ("waiting", [0, 1, 23, 24, 25, 64, TOP]), ("work 0", [0, 1, 60000, 60001]), ("work 2", [0, 60000, 60001]),
     ("work 3", [0, 60001]),
     ("arrival 0", [0, 100, 101]), ("arrival 2", [100, 101]), ("arrival 3", [101]), ("id 0", [0, TOP]),
+]
+FIGURES = [0, 1, 60002, 60003, 60004, 60108, 125539, 2147543651, TOP]
+FIGURE_ORDERS = [
+    (("waiting", 0), ("figure", 1)), (("waiting", 2), ("figure", 60003)), (("waiting", 4), ("figure", 60003)),
+    (("work 0", 3), ("figure", 60003)), (("work 3", 6), ("figure", 60003)),
+]
+RETURNS = [
     ("held", [0, 1, 3, 32, 33, TOP]), ("start 0", [89, 90, 93, 94, 95, 97]), ("start 1", [94, 95, 99, 100, TOP]),
     ("length 0", [0, 1, 3]), ("length 1", [0, 2, TOP]), ("length 2", [0]),
 ]
@@ -406,14 +429,21 @@ def main():
         for field, values in STATE:
             for value in values:
                 case(kind, [(field, value)], False)
+        for value in FIGURES:
+            case(kind, [("figure", value)], False)
+        for pair in FIGURE_ORDERS:
+            case(kind, pair, True)
+        for field, values in RETURNS:
+            for value in values:
+                case(kind, [(field, value)], False)
         for pair in RETURNS_ORDERS + STATE_ORDERS:
             case(kind, pair, True)
-        for waiting, works in REQUESTS:
+        for count, works in REQUESTS:
             for work in works:
                 s = base(kind)
-                s["waiting"] = waiting
+                put(s, "waiting", count)
                 number, after = request(s, TOP, work)
-                print(f"server {kind}{label('waiting', waiting)} work {work}: request {number} state {of(after)}")
+                print(f"server {kind}{label('waiting', count)} work {work}: request {number} state {of(after)}")
 
 
 RUNS = [

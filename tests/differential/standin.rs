@@ -36,3 +36,8 @@ pub unsafe extern "C" fn pilqandur_tick(state: State) -> TickResult {
 pub unsafe extern "C" fn pilqandur_run(state: State, k: u32, entries: *mut Entry, len: usize) -> MovedResult {
     standin::run(state, k, entries, len)
 }
+
+#[no_mangle]
+pub unsafe extern "C" fn pilqandur_waiting(state: State) -> WaitingResult {
+    standin::waiting(state)
+}

@@ -5,7 +5,8 @@ told from the right one.
 usage, from the repository's root:  tests/differential/wrong.py [LABEL ..]
 
 Each wrong/LABEL.edit names a file of the second implementation, or behind/src/FILE for one of tests/differential/src, a text that stands
-in it once, what to put in its place (\\n is a line feed), and which comparison must notice: plans, calls, both of these, or unnoticed.
+in it once, what to put in its place (\\n is a line feed), and which comparisons must notice, parted by commas: plans, calls, unnoticed,
+waiting, or both for plans and calls.
 """
 import os
 import re
@@ -24,9 +25,13 @@ COMPARISONS = {
     "plans": ("schedule", "20000"),
     "calls": ("libstandin.so", "200000"),
     "unnoticed": ("libstandin.so", "20000"),
+    "waiting": ("libstandin.so", "20000"),
 }
-# The comparisons that an edit's `by` names.
-BY = {"both": ["plans", "calls"], **{name: [name] for name in COMPARISONS}}
+
+
+def comparisons(edit):
+    """Those that an edit's `by` names."""
+    return edit["by"].replace("both", "plans, calls").split(", ")
 
 
 def read_edit(label):
@@ -65,7 +70,7 @@ def rustc(*arguments):
 def build(edit, folder):
     write_sources(edit, folder)
     second = f"second={folder}/libsecond.rlib"
-    wanted = {COMPARISONS[name][0] for name in BY[edit["by"]]}
+    wanted = {COMPARISONS[name][0] for name in comparisons(edit)}
     rustc("--crate-type", "rlib", "--crate-name", "second", f"{folder}/lib.rs", "-o", f"{folder}/libsecond.rlib")
     if "schedule" in wanted:
         rustc("--crate-name", "schedule", "--extern", second, f"{folder}/main.rs", "-o", f"{folder}/schedule")
@@ -86,7 +91,7 @@ def check(label):
     edit, folder = read_edit(label), f"{TARGET}/{label}"
     build(edit, folder)
     noticed = []
-    for name in BY[edit["by"]]:
+    for name in comparisons(edit):
         given, count = COMPARISONS[name]
         noticed.append(notices([f"{TOOLS}/{name}", f"{folder}/{given}", count, SEED]))
     print(f"{label}: {', '.join(one or 'NOT NOTICED' for one in noticed)}", flush=True)

@@ -1,7 +1,8 @@
 /* The inline forms of include/pilqandur.h beside the calls that they stand for, on states that are run on, full, damaged and at the last
- * clock: the same number; where it is 0, the same state, record and entries; where it is not, nothing changed. (A refused call hands the state
- * back as it came, so that a form that always copies it back would pass: the test in the form only spares the copy.) And each number and
- * limit of the header by a call that gives it, at its edge. Ends with 1 at the first fault. */
+ * clock: the same number; where it is 0, the same state, record, entries and figure; where it is not, nothing changed. (A refused call hands the
+ * state back as it came, so that a form that always copies it back would pass: the test in the form only spares the copy.) After each one that is
+ * carried out the work that waits is the sum over the queue. And each number and limit of the header by a call that gives it, at its edge. Ends
+ * with 1 at the first fault. */
 #include <stdio.h>
 #include <stdlib.h>
 #include <string.h>
@@ -25,12 +26,36 @@ static int same(const void *a, const void *b, size_t size)
     return memcmp(a, b, size) == 0;
 }
 
+/* The queue walked: the sum of the first n requests' work. */
+static uint32_t walked(const struct pilqandur_queue *queue)
+{
+    uint32_t sum = 0;
+    for (uint32_t i = 0; i < queue->n; i++)
+        sum += queue->requests[i].work;
+    return sum;
+}
+
+/* Whether the state is fit, and this much work waits in it. */
+static int waits(const struct pilqandur_state *state, uint32_t work)
+{
+    const struct pilqandur_waiting_result call = pilqandur_waiting(*state);
+    return call.number == PILQANDUR_DONE && call.work == work;
+}
+
+/* Whether the call refuses the state with 11, and says no figure. */
+static int unfit(const struct pilqandur_state *state)
+{
+    const struct pilqandur_waiting_result call = pilqandur_waiting(*state);
+    return call.number == PILQANDUR_UNFIT_STATE && call.work == 0;
+}
+
 /* The number is the call's, and the state the call's or the one before. */
 static void same_end(const char *what, uint32_t number, uint32_t by_call, const struct pilqandur_state *state,
                      const struct pilqandur_state *before, const struct pilqandur_state *after)
 {
     expect(number == by_call, what);
     expect(same(state, number == PILQANDUR_DONE ? after : before, sizeof *state), what);
+    expect(number != PILQANDUR_DONE || waits(state, walked(&state->queue)), "the work that waits");
     if (number == PILQANDUR_DONE)
         carried_out++;
     else
@@ -83,8 +108,22 @@ static void set_up(struct pilqandur_state *state, const struct pilqandur_table *
     expect(pilqandur_set_up_at(&again, table, NULL) == call.number && same(&again, state, sizeof again), "set_up without an index");
 }
 
+static void waiting(const struct pilqandur_state *state)
+{
+    const struct pilqandur_state before = *state;
+    const struct pilqandur_waiting_result call = pilqandur_waiting(before);
+    uint32_t work = 77777777;
+    same_end("waiting", pilqandur_waiting_at(state, &work), call.number, state, &before, &before);
+    expect(work == (call.number == PILQANDUR_DONE ? call.work : 77777777), "waiting: its figure");
+    expect(call.number == PILQANDUR_DONE || unfit(state), "waiting refuses with 11 alone, and then says 0");
+    expect(pilqandur_waiting_at(state, NULL) == call.number, "waiting without a figure");
+}
+
+#define ALL 8 /* calls of all() */
+
 static void all(struct pilqandur_state *state)
 {
+    waiting(state);
     request(state, 3);
     request(state, 0);
     tick(state);
@@ -137,12 +176,17 @@ static void kind_responses(void)
             t.server = (struct pilqandur_server){kinds[i], 1, 0, 0};
         struct pilqandur_state s = pilqandur_set_up(t).state;
         struct pilqandur_ticked ticked = {0, 0, 0, 0, 0, 0};
+        uint32_t work = 0;
         for (uint32_t tick = 0; !ticked.finished && tick < 20; tick++) {
-            if (tick == 3)
-                expect(pilqandur_request_at(&s, 7, 4) == PILQANDUR_DONE, "a request");
+            if (tick == 3) {
+                work = 4;
+                expect(pilqandur_request_at(&s, 7, work) == PILQANDUR_DONE, "a request");
+            }
             expect(pilqandur_tick_at(&s, &ticked) == PILQANDUR_DONE, "a tick");
             expect(tick >= 3 || ticked.kind == PILQANDUR_IDLE, "IDLE");
             expect(!ticked.finished || ticked.kind == PILQANDUR_REQUEST, "REQUEST");
+            work -= ticked.kind == PILQANDUR_REQUEST;
+            expect(waits(&s, work), "a tick that goes to a request, and no other, takes one off");
         }
         expect(ticked.response == responses[i], "a kind of server");
         expect(s.returns.n == (kinds[i] == PILQANDUR_RETURNING ? 2u : 0u), "a kind of server: what it holds");
@@ -181,6 +225,37 @@ static void stretch_numbers(void)
     expect(pilqandur_tick(s).number == PILQANDUR_DONE, "stretches under another kind");
 }
 
+/* The work that waits at its limit, and a state whose figure is not the sum: another figure, another work, another count. */
+static void waiting_numbers(void)
+{
+    struct pilqandur_state s = pilqandur_set_up(plain).state;
+    expect(waits(&s, 0), "a fresh state: nobody waits");
+    for (uint32_t i = 1; i <= PILQANDUR_MAX_WAITING; i++)
+        expect(pilqandur_request_at(&s, i, PILQANDUR_MAX_WORK) == PILQANDUR_DONE && waits(&s, i * PILQANDUR_MAX_WORK), "a request adds its work");
+    expect(waits(&s, PILQANDUR_MAX_BACKLOG), "MAX_BACKLOG");
+    const struct pilqandur_state full = s;
+    const uint32_t figures[4] = {0, PILQANDUR_MAX_BACKLOG - 1, PILQANDUR_MAX_BACKLOG + 1, 0xffffffffu};
+    for (int i = 0; i < 4; i++) {
+        s.queue.backlog = figures[i];
+        expect(unfit(&s), "another figure, UNFIT_STATE");
+        expect(pilqandur_request(s, 1, 0).number == PILQANDUR_UNFIT_STATE && pilqandur_tick(s).number == PILQANDUR_UNFIT_STATE &&
+                   pilqandur_run(s, 1, NULL, 0).number == PILQANDUR_UNFIT_STATE, "another figure, UNFIT_STATE before all else");
+    }
+    s = full;
+    s.queue.requests[3].work--;
+    expect(unfit(&s), "another work, UNFIT_STATE");
+    s.queue.backlog--;
+    expect(waits(&s, PILQANDUR_MAX_BACKLOG - 1), "another work with its figure");
+    s = full;
+    s.queue.n--;
+    expect(unfit(&s), "another count, UNFIT_STATE");
+    s.queue.backlog -= PILQANDUR_MAX_WORK;
+    expect(waits(&s, PILQANDUR_MAX_BACKLOG - PILQANDUR_MAX_WORK), "another count with its figure");
+    s = full;
+    s.progress.clock = PILQANDUR_LAST_CLOCK;
+    expect(waits(&s, PILQANDUR_MAX_BACKLOG), "the work that waits at the last clock");
+}
+
 /* Refusals 4, 5, 6 and 10, and the limits of a state. */
 static void state_numbers(void)
 {
@@ -208,6 +283,7 @@ int main(void)
     table_numbers();
     kind_responses();
     stretch_numbers();
+    waiting_numbers();
     state_numbers();
     struct pilqandur_table table = plain;
     struct pilqandur_state state;
@@ -231,6 +307,11 @@ int main(void)
         expect(*flags[i] == 0x100u, "a damaged flag was changed");
         *flags[i] = flag;
     }
+    unsigned met_unfit = refused[PILQANDUR_UNFIT_STATE];
+    state.queue.backlog ^= 0x100u;
+    all(&state);
+    expect(refused[PILQANDUR_UNFIT_STATE] == met_unfit + ALL, "a damaged figure was taken");
+    state.queue.backlog ^= 0x100u;
     state.progress.clock = PILQANDUR_LAST_CLOCK;
     all(&state);
     table.server.kind = PILQANDUR_RETURNING;
@@ -238,10 +319,10 @@ int main(void)
     for (int i = 0; i < 200; i++)
         all(&state);
     expect(state.returns.n > 0, "no tick is held");
-    const unsigned unfit = refused[PILQANDUR_UNFIT_STATE];
+    met_unfit = refused[PILQANDUR_UNFIT_STATE];
     state.returns.stretches[0].length++;
     all(&state);
-    expect(refused[PILQANDUR_UNFIT_STATE] == unfit + 7, "a damaged stretch was taken");
+    expect(refused[PILQANDUR_UNFIT_STATE] == met_unfit + ALL, "a damaged stretch was taken");
     const unsigned met[] = {PILQANDUR_BAD_TASK,    PILQANDUR_BAD_WORK,     PILQANDUR_QUEUE_FULL,
                             PILQANDUR_CLOCK_SPENT, PILQANDUR_SHORT_RECORD, PILQANDUR_UNFIT_STATE};
     for (size_t i = 0; i < sizeof met / sizeof met[0]; i++)

@@ -27,8 +27,8 @@ fn main() {
     layout!("sporadic", Sporadic, tr begin nr served late above busy);
     layout!("server_state", ServerState, budget sporadic);
     layout!("progress", Progress, left server clock);
-    layout!("waiting", Waiting, id work arrival);
-    layout!("queue", Queue, requests n);
+    layout!("queued", Queued, id work arrival);
+    layout!("queue", Queue, requests n backlog);
     layout!("stretch", Stretch, start length);
     layout!("returns", Returns, stretches n);
     layout!("state", State, table progress queue returns);
@@ -37,7 +37,8 @@ fn main() {
     layout!("admission_result", AdmissionResult, number index bounds serverbound admitted);
     layout!("moved_result", MovedResult, number state);
     layout!("tick_result", TickResult, number kind id drops finished request response state);
-    numbers!(MAX_TASKS MAX_WAITING MAX_STRETCHES MAX_TIME MAX_WORK LAST_CLOCK);
+    layout!("waiting_result", WaitingResult, number work);
+    numbers!(MAX_TASKS MAX_WAITING MAX_STRETCHES MAX_TIME MAX_WORK MAX_BACKLOG LAST_CLOCK);
     numbers!(BACKGROUND POLLING DEFERRABLE SPORADIC RETURNING IDLE TASK REQUEST);
     numbers!(DONE TASK_COUNT BAD_TASK BAD_SERVER BAD_WORK QUEUE_FULL CLOCK_SPENT PLAN_TOO_LONG BAD_LINE LINE_MISPLACED);
     numbers!(SHORT_RECORD UNFIT_STATE);

@@ -25,12 +25,14 @@ DOOR(admit);
 DOOR(request);
 DOOR(tick);
 DOOR(run);
+DOOR(waiting);
 
 struct pilqandur_set_up_result door_set_up(struct pilqandur_table table);
 struct pilqandur_admission_result door_admit(struct pilqandur_table table);
 struct pilqandur_moved_result door_request(struct pilqandur_state state, uint32_t id, uint32_t work);
 struct pilqandur_tick_result door_tick(struct pilqandur_state state);
 struct pilqandur_moved_result door_run(struct pilqandur_state state, uint32_t k, struct pilqandur_entry *entries, size_t len);
+struct pilqandur_waiting_result door_waiting(struct pilqandur_state state);
 
 /* Paints the stack from its far end up to a little below this function's own frame, where its locals may lie. */
 static __attribute__((noinline)) void paint(void)
@@ -72,6 +74,7 @@ FORM_OF(admit, pilqandur_admit(form_table).number)
 FORM_OF(request, pilqandur_request_at(&form_state, 1, 1))
 FORM_OF(tick, pilqandur_tick_at(&form_state, NULL))
 FORM_OF(run, pilqandur_run_at(&form_state, TICKS, form_entries, TICKS))
+FORM_OF(waiting, pilqandur_waiting_at(&form_state, NULL))
 
 static uint32_t below(uint32_t n)
 {
@@ -92,7 +95,7 @@ static struct pilqandur_table any_table(void)
     return t;
 }
 
-/* One table: set-up, admission, then requests, ticks and runs from its fresh state on; refused ones too. */
+/* One table: set-up, admission, then requests, ticks, runs and the work that waits from its fresh state on; refused ones too. */
 static void one_table(void)
 {
     static struct pilqandur_entry entries[TICKS];
@@ -101,18 +104,22 @@ static void one_table(void)
     struct pilqandur_admission_result admission;
     struct pilqandur_moved_result moved;
     struct pilqandur_tick_result tick;
+    struct pilqandur_waiting_result waiting;
     MEASURED(set_up, up = door_set_up(table));
     MEASURED(admit, admission = door_admit(table));
     (void)admission;
     struct pilqandur_state state = up.state;
     for (int i = 0; i < 30; i++) {
         MEASURED(request, moved = door_request(state, (uint32_t)i, below(6)));
+        MEASURED(waiting, waiting = door_waiting(moved.state));
         MEASURED(tick, tick = door_tick(moved.state));
         MEASURED(run, moved = door_run(tick.state, below(TICKS), entries, TICKS - below(4)));
         state = moved.state;
     }
     state.progress.server.sporadic.busy = 2;
     MEASURED(tick, tick = door_tick(state));
+    MEASURED(waiting, waiting = door_waiting(state));
+    (void)waiting;
     form_table = table;
     FORM(set_up);
     FORM(admit);
@@ -120,6 +127,7 @@ static void one_table(void)
         FORM(request);
         FORM(tick);
         FORM(run);
+        FORM(waiting);
     }
 }
 
@@ -146,5 +154,6 @@ int main(void)
     SAY(request, state + sizeof(struct pilqandur_moved_result));
     SAY(tick, state + sizeof(struct pilqandur_tick_result));
     SAY(run, state + sizeof(struct pilqandur_moved_result));
+    SAY(waiting, state + sizeof(struct pilqandur_waiting_result));
     return 0;
 }

@@ -101,7 +101,7 @@ fn mix_requests(h: u64, requests: [Request; WAITING]) -> u64 {
 
 fn mix_queue(h: u64, queue: Queue) -> u64 {
     let requests = queue.requests;
-    mix_requests(mix(h, queue.n), requests)
+    mix_requests(mix(mix(h, queue.n), queue.backlog), requests)
 }
 
 fn mix_stretch(h: u64, stretch: Stretch) -> u64 {

@@ -29,6 +29,10 @@ fn run_call(state: State, k: u32) {
     print::recording(scheduler::run_block(state, k));
 }
 
+fn waiting_call(state: State) {
+    print::waiting(scheduler::waiting(state));
+}
+
 fn set_up_call(table: Table) {
     print::set_up(table.set_up());
 }
@@ -48,6 +52,7 @@ fn answers(state: State, of_table: bool) {
     run_call(state, 0);
     run_call(state, 32);
     run_call(state, 33);
+    waiting_call(state);
     if of_table {
         table_calls(state.table);
     }
@@ -165,6 +170,17 @@ fn queue(kind: u32) {
     cases(kind, b'i', 0, false, &[0, 4294967295]);
 }
 
+// 2, 60,000 and 1 ticks of work wait; where the other slots count too, and where less do.
+fn backlog(kind: u32) {
+    cases(kind, b'F', 0, false, &[0, 1, 60002, 60003, 60004, 60108]);
+    cases(kind, b'F', 0, false, &[125539, 2147543651, 4294967295]);
+    pair_case(kind, b'q', 0, 0, b'F', 0, 1);
+    pair_case(kind, b'q', 0, 2, b'F', 0, 60003);
+    pair_case(kind, b'q', 0, 4, b'F', 0, 60003);
+    pair_case(kind, b'w', 0, 3, b'F', 0, 60003);
+    pair_case(kind, b'w', 3, 6, b'F', 0, 60003);
+}
+
 // Kind 4's further limits, which the others do not ask: ticks 92, 93 and 96 are held, and one budget tick is left of four.
 fn returns(kind: u32) {
     cases(kind, b'h', 0, false, &[0, 1, 3, 32, 33, 4294967295]);
@@ -209,6 +225,7 @@ fn limits(kind: u32) {
     table_orders(kind);
     progress(kind);
     queue(kind);
+    backlog(kind);
     returns(kind);
     returns_orders(kind);
     state_orders(kind);

@@ -10,6 +10,7 @@ use rules::Moved;
 use rules::Occupant;
 use rules::TickAnswer;
 use rules::Ticked;
+use rules::Waiting;
 use scheduler::Recording;
 use table::Checked;
 use table::Refusal;
@@ -125,6 +126,12 @@ pub fn recording(r: Recording) {
     let entries = r.entries;
     answered(b"; run ", answer, r.state);
     field(b" entries ", mix_entries(entries));
+}
+
+pub fn waiting(w: Waiting) {
+    let answer = w.answer;
+    checked(b"; waiting ", answer);
+    field(b" work ", w.work as u64);
 }
 
 // The field that a case changes, and the value that it puts there.

@@ -108,7 +108,11 @@ fn queue() -> Queue {
         work: 1,
         arrival: 95,
     };
-    Queue { requests, n: 3 }
+    Queue {
+        requests,
+        n: 3,
+        backlog: 60003,
+    }
 }
 
 // Two stretches are held, of two ticks and of one, in the last ten before the clock; the slot after them ends past it.
@@ -221,7 +225,26 @@ fn queue_with(mut queue: Queue, letter: u8, slot: usize, value: u32) -> Queue {
     if letter == b'q' {
         queue.n = value;
     }
+    let requests = queue.requests;
+    queue.backlog = work_of(requests, queue.n);
+    if letter == b'F' {
+        queue.backlog = value;
+    }
     queue
+}
+
+// The work of the slots in use: each case has the figure that belongs to its queue, but for those that change the figure itself.
+fn work_of(requests: [Request; Table::MAX_WAITING as usize], n: u32) -> u32 {
+    let mut sum: u32 = 0;
+    let mut i: u32 = 0;
+    while i < Table::MAX_WAITING {
+        let request = requests[i as usize];
+        if i < n {
+            sum = lists::saturating_add(sum, request.work);
+        }
+        i += 1;
+    }
+    sum
 }
 
 fn stretch_with(mut stretch: Stretch, letter: u8, value: u32) -> Stretch {

@@ -15,13 +15,14 @@ use Rattle.capi.specs.declared.SetUpResult.{SetUpResult}
 use Rattle.capi.specs.declared.AdmissionResult.{AdmissionResult}
 use Rattle.capi.specs.declared.MovedResult.{MovedResult}
 use Rattle.capi.specs.declared.TickResult.{TickResult}
+use Rattle.capi.specs.declared.WaitingResult.{WaitingResult}
 use Rattle.capi.specs.declared.Done.{Done}
 use Rattle.capi.specs.declared.boundary.CState.{CState}
 use Rattle.capi.specs.Boundary.{flagsFit, stateFrom, stateTo}
 
 -- the number of this header and archive
 abbrev pub version : ℕ
-version = 4
+version = 5
 
 -- "A refusal returns its number, and for 2 the index"
 abbrev pub setUpResult : Figures → State → SetUpResult
@@ -65,6 +66,14 @@ tickAt f s = record {
 -- of a state whose flags do not fit: 11, and the state as it came
 abbrev pub tickResult : CState → TickFigures → State → TickResult
 tickResult s f next = cond (flagsFit s) (tickAt f (stateTo next)) (tickAt (refusedFigures 11) s)
+
+-- the answer of the waiting call (8/13): its number and the figure
+abbrev pub waitingAt : ℕ → ℕ → WaitingResult
+waitingAt n work = record { number = n; work = work }
+
+-- of a state whose flags do not fit: 11, and no figure
+abbrev pub waitingResult : CState → Figures → ℕ → WaitingResult
+waitingResult s f work = cond (flagsFit s) (waitingAt (f .number) work) (waitingAt 11 0)
 
 -- what a tick finished, as the code holds it
 abbrev pub doneBy : Finish → Done

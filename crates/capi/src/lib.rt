@@ -5,10 +5,10 @@ ghost use lib.ListN.{length};
 ghost use Rattle.table.specs.Refusal.{value, numberOf, valueOf};
 ghost use Rattle.table.specs.State.{freshState, tableFigures};
 ghost use Rattle.bounds.specs.Admission.{admissionCall};
-ghost use Rattle.rules.specs.Calls.{requestCall, tickCall, runCall};
-ghost use Rattle.rules.specs.Figures.{requestFigures, runFigures, answerFigures, tickFigures};
+ghost use Rattle.rules.specs.Calls.{requestCall, tickCall, runCall, waitingCall};
+ghost use Rattle.rules.specs.Figures.{requestFigures, runFigures, answerFigures, tickFigures, waitingFigures};
 ghost use Rattle.capi.specs.Boundary.{stateFrom, handedBack};
-ghost use Rattle.capi.specs.Results.{version, setUpResult, admissionResult, movedAt, movedResult, lentAfter, tickAt, tickResult, doneBy, ranBy};
+ghost use Rattle.capi.specs.Results.{version, setUpResult, admissionResult, movedAt, movedResult, lentAfter, tickAt, tickResult, waitingResult, doneBy, ranBy};
 use boundary::CState;
 use queue::Finish;
 use rules::Entry;
@@ -21,7 +21,7 @@ use table::Table;
 mod boundary;
 
 // The number of this header and archive: it rises with each change of a struct, a number or a meaning. include/pilqandur.h says the same.
-const VERSION: u32 = 4;
+const VERSION: u32 = 5;
 
 // ---- what a call answers: number is 0 or document 01's number of the refusal; index belongs to refusal 2
 
@@ -62,6 +62,13 @@ pub struct TickResult {
     pub request: u32,
     pub response: u32,
     pub state: CState,
+}
+
+// Of the waiting call. work: the ticks of work that wait; 0 where the call refuses.
+#[repr(C)]
+pub struct WaitingResult {
+    pub number: u32,
+    pub work: u32,
 }
 
 // The last three numbers of a tick.
@@ -249,4 +256,17 @@ pub extern "C" fn pilqandur_run(state: CState, k: u32, entries: &mut [Entry]) ->
 {
     let moved = scheduler::run(state.taken(), k, entries);
     moved_result(state, moved)
+}
+
+// The ticks of work that wait, as the state holds them, or refusal 11. It moves no state, so none comes back.
+#[no_mangle]
+pub extern "C" fn pilqandur_waiting(state: CState) -> WaitingResult
+    ensures { λ r. ⌜ r ≡ waitingResult state (waitingFigures (stateFrom state)) (waitingCall (stateFrom state) .work) ⌝ }
+{
+    let waiting = scheduler::waiting(state.taken());
+    let answer = waiting.answer;
+    WaitingResult {
+        number: number_of(answer),
+        work: waiting.work,
+    }
 }

@@ -1,5 +1,6 @@
 -- The guarantee's hypothesis can be met under each kind of server by a table whose requests load it, and a table that is not admitted
--- can drop. Of request 2/13: what tasks above the server do not notice under each kind, and that a task below does. All by computation.
+-- can drop. Of request 2/13: what tasks above the server do not notice under each kind, and that a task below does. Of request 8/13: the figure
+-- after a list. All by computation.
 use Prim.Native.Nat.{ℕ, zero, suc, _+_, _-_, _≤_, _<_}
 use native.Mathlib.Omega.{arith}
 use mathlib.Core.Path.{_≡_, refl, ap}
@@ -11,12 +12,16 @@ use lib.ListN.{length, replicate}
 use Rattle.lists.specs.Lists.{overlay, all}
 use Rattle.lists.specs.Stretch.{stretch, howMany, tally}
 use Rattle.table.specs.declared.Table.{Table}
+use Rattle.table.specs.declared.Checked.{Checked}
+use Rattle.table.specs.declared.Refusal.{Refusal}
 use Rattle.bounds.specs.Admission.{admissionCall}
 use Rattle.rules.specs.declared.Entry.{Entry}
+use Rattle.rules.specs.Calls.{waitingCall}
 use Rattle.rules.specs.Play.{task, server, table}
 use Rattle.guarantee.specs.Calls.{Call, request, tick, run, RanTick, ticks, tickAt, clockAfter, hasTask, hasRequest}
 use Rattle.guarantee.specs.Guarantee.{boundAt, Loaded, byBudgetIn, Guarantee}
 use Rattle.guarantee.specs.Unnoticed.{acceptedTicks, runsIn, droppedIn, Unnoticed}
+use Rattle.guarantee.specs.Waiting.{stateAfterAll, sumAfter, acceptedWork}
 use Rattle.guarantee.specs.Kept.{guarantee, unnoticed}
 
 -- one row 3, 6, 2, D
@@ -209,3 +214,18 @@ reported-differ = (refl, refl)
 shorter-ends : (runsIn (crowded 2) calm 0 8 ≡ true) × (runsIn (crowded 2) (run 8 (lent 8) ∷ []) 0 8 ≡ false)
 unfolding overlay
 shorter-ends = (refl, refl)
+
+-- ---- 8/13: of the load above 40 and 1 ticks of work are accepted and none of a refused request; eleven ticks go to requests, and 30 wait
+abbrev counts : ℕ → List ℕ
+counts kind =
+    acceptedWork (marked kind) load ∷ howMany hasRequest (ticks (marked kind) load) ∷ sumAfter (marked kind) load
+    ∷ waitingCall (stateAfterAll (marked kind) load) .work ∷ []
+
+figure-each : map counts (0 ∷ 1 ∷ 2 ∷ 3 ∷ 4 ∷ []) ≡ replicate 5 (41 ∷ 11 ∷ 30 ∷ 30 ∷ [])
+unfolding overlay
+figure-each = refl
+
+-- of a table that set-up refuses nothing waits, and the call refuses
+refused-table : (waitingCall (stateAfterAll (one 7 2 0 5 2) load) .answer ≡ Checked.Refused Refusal.UnfitState) × (sumAfter (one 7 2 0 5 2) load ≡ 0)
+unfolding overlay
+refused-table = (refl, refl)

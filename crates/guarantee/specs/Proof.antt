@@ -23,3 +23,4 @@ pub mod Played
 pub mod Reports
 pub mod Together
 pub mod Quiet
+pub mod Waiting

@@ -20,7 +20,7 @@ tally f r zero = 0
 tally f r (suc n) = cond (f r) 1 0 + tally f (suc r) n
 
 -- ---- laws
-count-cons : (b : Bool) (bs : List Bool) → count (b ∷ bs) ≡ cond b 1 0 + count bs
+pub count-cons : (b : Bool) (bs : List Bool) → count (b ∷ bs) ≡ cond b 1 0 + count bs
 count-cons true bs = refl
 count-cons false bs = omega arith
 

@@ -18,7 +18,7 @@ use Rattle.queue.specs.Queue.{waitingOf}
 use Rattle.rules.specs.declared.Entry.{Entry}
 use Rattle.fields.specs.declared.Arrival.{Arrival}
 use Rattle.fields.specs.Text.{maxNumber}
-use Rattle.output.specs.Totals.{cappedSum, counted, blockTotals}
+use Rattle.output.specs.Totals.{counted, blockTotals}
 use Rattle.output.specs.Steps.{NotDue}
 use Rattle.output.specs.Blocks.{letter, entryLine, Unfinished, Undisturbed, Free, unfinished-less, undisturbed-less}
 use Rattle.output.specs.declared.Place.{Place}
@@ -27,10 +27,6 @@ use Rattle.output.specs.declared.Totals.{Totals}
 -- the lesser of two numbers is neither's greater
 pub lesser-both : (a b : ℕ) {r : ℕ} → r ≡ lesserOf a b → (r ≤ a) × (r ≤ b)
 lesser-both a b e = (omega (arith, e, lesser-left a b), omega (arith, e, lesser-right a b))
-
--- a sum that does not fit
-pub sum-capped : (a b : ℕ) → maxNumber < a + b → maxNumber ≡ cappedSum a b
-sum-capped a b h = rw (lt-ltb maxNumber (a + b) h) refl
 
 -- totals that agree in their parts
 pub totals-same :

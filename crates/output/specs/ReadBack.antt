@@ -7,7 +7,7 @@ use mathlib.Core.List.{List, [], _∷_, _++_, append-nil, append-assoc}
 use lib.ListN.{length, take, drop}
 use lib.Dec.{eqb, ltb}
 use borrow.Author.Tests.{le-leb}
-use Rattle.lists.specs.Numbers.{bitOf}
+use Rattle.lists.specs.Numbers.{bitOf, cappedSum, sum-fits}
 use Rattle.lists.specs.Tests.{either}
 use Rattle.queue.specs.declared.Finish.{Finish}
 use Rattle.server.specs.Limits.{lastClock}
@@ -37,7 +37,7 @@ use Rattle.plan.specs.Plan.{planOf, arrivalsFrom}
 use Rattle.plan.specs.Accepted.{accepted-keeps}
 use Rattle.heading.specs.Heading.{headText}
 use Rattle.output.specs.declared.Totals.{Totals}
-use Rattle.output.specs.Totals.{noTotals, counted, answered, closingText, cappedSum, sum-fits}
+use Rattle.output.specs.Totals.{noTotals, counted, answered, closingText}
 use Rattle.output.specs.Output.{occupantLine, finishText, tickText, arrivalCall, dueText, afterDue, later, ticksText, textBy, scheduleText}
 use Rattle.output.specs.Blocks.{fit-ran}
 use Rattle.output.specs.Printed.{closed, unclosed, linesOf, lastOf, Figure, ticks, idle, rows, requests, drops, sumX, overX, Totalled}

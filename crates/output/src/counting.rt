@@ -3,34 +3,21 @@ ghost use mathlib.Core.Path.{_≡_};
 ghost use Prim.Native.Nat.{_≤_};
 ghost use lib.ListN.{take};
 ghost use Rattle.scheduler.specs.Parts.{blockTicks};
-ghost use Rattle.output.specs.Totals.{cappedSum, counted, answered, blockTotals};
+ghost use Rattle.output.specs.Totals.{counted, answered, blockTotals};
 use crate::Totals;
 use rules::Entry;
 use rules::TickAnswer;
 use scheduler::Recording;
-
-// The largest number.
-const MAX_NUMBER: u32 = 4294967295;
-
-// The sum of two numbers; the largest number where it does not fit.
-fn sum(a: u32, b: u32) -> u32
-    ensures { λ r. ⌜ r ≡ cappedSum a b ⌝ }
-{
-    if MAX_NUMBER - a < b {
-        return MAX_NUMBER;
-    }
-    a + b
-}
 
 // The totals with a tick more, by its record.
 fn count(totals: Totals, entry: Entry) -> Totals
     ensures { λ r. ⌜ r ≡ counted totals entry ⌝ }
 {
     Totals {
-        idle: sum(totals.idle, lists::bit(entry.kind == 0)),
-        tasks: sum(totals.tasks, lists::bit(entry.kind == 1)),
-        requests: sum(totals.requests, lists::bit(entry.kind > 1)),
-        drops: sum(totals.drops, entry.drops),
+        idle: lists::saturating_add(totals.idle, lists::bit(entry.kind == 0)),
+        tasks: lists::saturating_add(totals.tasks, lists::bit(entry.kind == 1)),
+        requests: lists::saturating_add(totals.requests, lists::bit(entry.kind > 1)),
+        drops: lists::saturating_add(totals.drops, entry.drops),
     }
 }
 

@@ -22,7 +22,8 @@ use Rattle.rules.specs.declared.Occupant.{Occupant}
 use Rattle.rules.specs.declared.Moved.{Moved}
 use Rattle.rules.specs.declared.TickAnswer.{TickAnswer}
 use Rattle.rules.specs.declared.Ticked.{Ticked}
-use Rattle.rules.specs.Calls.{requestCheck, requestCall, tickCall, entryBy, runCheck, runCall, runList}
+use Rattle.rules.specs.declared.Waiting.{Waiting}
+use Rattle.rules.specs.Calls.{requestCheck, requestCall, tickCall, entryBy, runCheck, runCall, runList, waitingCall}
 use Rattle.scheduler.specs.declared.Recording.{Recording}
 use Rattle.scheduler.specs.Parts.{allowance, blockTicks, idleEntries, blockCall}
 use Rattle.scheduler.specs.Laws.{ticks-le, run-length}
@@ -180,13 +181,15 @@ module _ (t : Table) (u : SetUp) (e : u ≡ setUpCall t) where
   pub fresh-early : u .state .progress .clock ≤ lastClock
   fresh-early = omega (arith, ap (λ (x : SetUp). x .state .progress .clock) e)
 
-  -- the report of what admission answered and what the calls made
-  abbrev reportOf : Admission → Made → Report
-  reportOf a m = record { admitted = a .admitted; ticks = m .ticks; drops = m .drops; state = m .state }
+  -- the report of what admission answered, what the calls made, and what the waiting call told
+  abbrev reportOf : Admission → Made → Waiting → Report
+  reportOf a m w = record { admitted = a .admitted; ticks = m .ticks; drops = m .drops; waiting = w .work; state = m .state }
 
-  pub played : (a : Admission) (m : Made) (calls : List Call) → a ≡ admissionCall t → m ≡ made (u .state) calls →
-      (reportOf a m ≡ reported t calls) × Promise t calls (reportOf a m)
-  played a m calls p q = (is, promise t calls (reportOf a m) is)
+  pub played : (a : Admission) (m : Made) (w : Waiting) (calls : List Call) → length (t .tasks) ≡ maxTasks → a ≡ admissionCall t → m ≡ made (u .state) calls →
+      w ≡ waitingCall (m .state) → (reportOf a m w ≡ reported t calls) × Promise t calls (reportOf a m w)
+  played a m w calls z p q v = (is, promise t calls (reportOf a m w) z is)
     where
-      is : reportOf a m ≡ reported t calls
-      is = (λ j. reportOf (p j) (q j)) ∙ ap (λ (x : SetUp). reportOf (admissionCall t) (made (x .state) calls)) e
+      is : reportOf a m w ≡ reported t calls
+      is =
+          (λ j. reportOf a m (v j)) ∙ (λ j. reportOf (p j) (q j) (waitingCall (q j .state)))
+          ∙ ap (λ (x : SetUp). reportOf (admissionCall t) (made (x .state) calls) (waitingCall (made (x .state) calls .state))) e

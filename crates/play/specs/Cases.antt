@@ -57,6 +57,10 @@ pub record Cases : Type 0 where
   pub too-long : reports marked (2 ∷ 33 ∷ 0 ∷ []) .ticks ≡ 0
   -- of a table that breaks its limits every call is refused
   pub refused : Counts (reports broken (0 ∷ 7 ∷ 4 ∷ 1 ∷ 0 ∷ 0 ∷ 2 ∷ 9 ∷ 0 ∷ [])) false 0 0
+  -- 8/13: the marked request has had three of its four ticks, and all; another has none yet
+  pub waiting : reports marked (2 ∷ 3 ∷ 0 ∷ 0 ∷ 7 ∷ 4 ∷ 2 ∷ 3 ∷ 0 ∷ []) .waiting ≡ 1
+  pub none-waiting : reports marked (2 ∷ 3 ∷ 0 ∷ 0 ∷ 7 ∷ 4 ∷ 2 ∷ 4 ∷ 0 ∷ []) .waiting ≡ 0
+  pub two-waiting : reports marked (2 ∷ 3 ∷ 0 ∷ 0 ∷ 7 ∷ 4 ∷ 2 ∷ 3 ∷ 0 ∷ 0 ∷ 8 ∷ 9 ∷ []) .waiting ≡ 10
 
 pub cases : Cases
 unfolding overlay
@@ -68,4 +72,7 @@ cases = record {
   longest = refl;
   too-long = refl;
   refused = record { admits = refl; runs = refl; dropped = refl };
+  waiting = refl;
+  none-waiting = refl;
+  two-waiting = refl;
 }

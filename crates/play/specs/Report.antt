@@ -7,6 +7,7 @@ use Rattle.table.specs.declared.State.{State}
 use Rattle.table.specs.State.{freshState}
 use Rattle.bounds.specs.Admission.{admissionCall}
 use Rattle.rules.specs.declared.Entry.{Entry}
+use Rattle.rules.specs.Calls.{waitingCall}
 use Rattle.guarantee.specs.Calls.{Call, final, events, RanTick, ticksFrom, ticks}
 use Rattle.play.specs.declared.Made.{Made}
 use Rattle.play.specs.declared.Report.{Report}
@@ -28,11 +29,12 @@ made s calls = record {
   drops = dropsOf (ticksFrom 0 (events s calls));
 }
 
--- what is reported of a table and a list of calls, which starts from the state that set-up gives the table
+-- what is reported of a table and a list of calls, which starts from the state that set-up gives the table; the waiting call is made last
 abbrev pub reported : Table → List Call → Report
 reported t calls = record {
   admitted = admissionCall t .admitted;
   ticks = length (ticks t calls);
   drops = dropsOf (ticks t calls);
+  waiting = waitingCall (final (freshState t) calls) .work;
   state = final (freshState t) calls;
 }

@@ -27,11 +27,13 @@ struct Made {
     drops: u64,
 }
 
-// What is reported of a table and a list of calls: whether the table is admitted, and what the calls leave and report.
+// What is reported of a table and a list of calls: whether the table is admitted, what the calls leave and report, and what the waiting call
+// tells after them.
 pub struct Report {
     pub admitted: bool,
     pub ticks: u32,
     pub drops: u64,
+    pub waiting: u32,
     pub state: State,
 }
 
@@ -170,10 +172,12 @@ pub fn play(table: Table, calls: &[u32]) -> Report
     let up = table.set_up();
     let all = make_all(up.state, calls);
     let state = all.state;
+    let told = scheduler::waiting(state);
     Report {
         admitted: admission.admitted,
         ticks: all.ticks,
         drops: all.drops,
+        waiting: told.work,
         state,
     }
 }

@@ -1,7 +1,8 @@
--- Laws of the queue for those who call it: the list that waits after a call, what the array's front shows of it, and fitness kept.
-use Prim.Native.Nat.{ℕ, zero, suc, _+_, _-_, _≤_, _<_}
+-- Laws of the queue for those who call it: the list that waits after a call, what the array's front shows of it, fitness kept, and the work
+-- that waits.
+use Prim.Native.Nat.{ℕ, zero, suc, _+_, _-_, _*_, _≤_, _<_}
 use native.Mathlib.Omega.{arith}
-use mathlib.Core.Path.{_≡_, refl, ap}
+use mathlib.Core.Path.{_≡_, refl, sym, ap}
 use mathlib.Core.Bool.{Bool, true, false, cond, not, _&&_}
 use mathlib.Core.List.{List, [], _∷_}
 use borrow.Author.Tests.{le-leb, lt-leb, lt-ltb, leb-true, leb-false}
@@ -9,11 +10,12 @@ use lib.ListN.{length, take, getD}
 use lib.Seq.{length-take-le}
 use lib.Dec.{leb}
 use Rattle.lists.specs.Lists.{take-overlay}
-use Rattle.lists.specs.Tests.{and-split, and-join, either}
+use Rattle.lists.specs.Numbers.{last32, sum-fits}
+use Rattle.lists.specs.Tests.{and-split, and-join, either, never}
 use Rattle.queue.specs.declared.Request.{Request}
 use Rattle.queue.specs.declared.Queue.{Queue}
 use Rattle.queue.specs.declared.Finish.{Finish}
-use Rattle.queue.specs.Queue.{maxWaiting, maxWork, workFits, waitingOf, queueWith, waits, presented, served, finished, requestFits, requestsFit}
+use Rattle.queue.specs.Queue.{maxWaiting, maxWork, workFits, waitingWork, waitingOf, queueWith, waits, presented, served, finished, requestFits, requestsFit}
 use Rattle.queue.specs.Steps.{pushedQueue, servedQueue}
 
 -- a request that was served one tick and stays
@@ -22,18 +24,27 @@ worked r = record { id = r .id; work = r .work - 1; arrival = r .arrival }
 
 -- ---- the list and the array
 -- what waits after a list is laid over the array is that list
-pub waiting-with : (q : Queue) (rs : List Request) → waitingOf (queueWith q rs) ≡ rs
-waiting-with q rs = take-overlay (length rs) rs (q .requests) refl
+pub waiting-with : (q : Queue) (rs : List Request) (backlog : ℕ) → waitingOf (queueWith q rs backlog) ≡ rs
+waiting-with q rs backlog = take-overlay (length rs) rs (q .requests) refl
 
 pub waiting-length : (q : Queue) → q .n ≤ length (q .requests) → length (waitingOf q) ≡ q .n
 waiting-length q h = length-take-le (q .n) (q .requests) h
 
--- a queue that is not full takes a request; one that says no more wait than may is served
-pub pushed-with : (q : Queue) (id work t : ℕ) → q .n < maxWaiting → pushedQueue q id work t ≡ queueWith q (presented id work t (waitingOf q))
-pushed-with q id work t h = rw (lt-ltb (q .n) maxWaiting h)
+-- where a request waits, the count is no 0
+pub waits-some : (q : Queue) → waits (waitingOf q) ≡ true → 1 ≤ q .n
+waits-some q e = go (q .n) e
+  where
+    go : (n : ℕ) → waits (take n (q .requests)) ≡ true → 1 ≤ n
+    go zero e = never refl e
+    go (suc n) e = omega arith
 
-pub served-with : (q : Queue) → q .n ≤ maxWaiting → servedQueue q ≡ queueWith q (served (waitingOf q))
-served-with q h = rw (le-leb (q .n) maxWaiting h)
+-- a queue that is not full takes a request; one in which some wait, and no more than may, is served
+pub pushed-with : (q : Queue) (id work t : ℕ) → q .n < maxWaiting → q .backlog + work ≤ last32 →
+    pushedQueue q id work t ≡ queueWith q (presented id work t (waitingOf q)) (q .backlog + work)
+pushed-with q id work t h f = rw (lt-ltb (q .n) maxWaiting h, sym (sum-fits (q .backlog) work f))
+
+pub served-with : (q : Queue) → 1 ≤ q .n → q .n ≤ maxWaiting → servedQueue q ≡ queueWith q (served (waitingOf q)) (q .backlog - 1)
+served-with q s h = rw (le-leb 1 (q .n) s, le-leb (q .n) maxWaiting h)
 
 -- ---- lengths
 pub presented-length : (id work t : ℕ) (q : List Request) → length (presented id work t q) ≡ suc (length q)
@@ -120,3 +131,32 @@ fit-served clock (r ∷ q) e = by (leb (r .work) 1) refl
         and-join (requestFits clock (worked r)) (requestsFit clock q)
         (fits-request clock (worked r) (record { some = omega (arith, more); work = omega (arith, f .work); arrival = f .arrival }))
         (s .1)
+
+-- ---- the work that waits (8/13)
+-- a request adds its work
+pub presented-work : (id work t : ℕ) (q : List Request) → waitingWork (presented id work t q) ≡ waitingWork q + work
+presented-work id work t [] = omega arith
+presented-work id work t (r ∷ q) = omega (arith, presented-work id work t q)
+
+-- a served tick takes one off
+pub served-work : (clock : ℕ) (q : List Request) → requestsFit clock q ≡ true → waitingWork (served q) ≡ waitingWork q - 1
+served-work clock [] e = omega arith
+served-work clock (r ∷ q) e = by (leb (r .work) 1) refl
+  where
+    f : Fits clock r
+    f = request-fits clock r (and-split (requestFits clock r) (requestsFit clock q) e .0)
+
+    by : (b : Bool) → leb (r .work) 1 ≡ b → waitingWork (cond b q (worked r ∷ q)) ≡ waitingWork (r ∷ q) - 1
+    by true h = omega (arith, f .some, leb-true (r .work) 1 h)
+    by false h = omega (arith, leb-false (r .work) 1 h)
+
+-- where a request waits, work does; and no more than the longest work of each
+pub some-work : (clock : ℕ) (q : List Request) → requestsFit clock q ≡ true → waits q ≡ true → 1 ≤ waitingWork q
+some-work clock [] e w = never refl w
+some-work clock (r ∷ q) e w = omega (arith, request-fits clock r (and-split (requestFits clock r) (requestsFit clock q) e .0) .some)
+
+pub most-work : (clock : ℕ) (q : List Request) → requestsFit clock q ≡ true → waitingWork q ≤ maxWork * length q
+most-work clock [] e = omega arith
+most-work clock (r ∷ q) e =
+    let s = and-split (requestFits clock r) (requestsFit clock q) e in
+    omega (arith, request-fits clock r (s .0) .work, most-work clock q (s .1))

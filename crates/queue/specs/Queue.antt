@@ -1,5 +1,5 @@
 -- The requests that wait, as a list with the head first, and the array that holds them.
-use Prim.Native.Nat.{ℕ, _+_, _-_}
+use Prim.Native.Nat.{ℕ, _+_, _-_, _*_}
 use mathlib.Core.Bool.{Bool, true, false, cond, _&&_}
 use mathlib.Core.List.{List, [], _∷_, _++_}
 use lib.ListN.{length, take, replicate}
@@ -21,17 +21,27 @@ maxWork = 60_000
 abbrev pub workFits : ℕ → Bool
 workFits work = between 1 maxWork work
 
+-- 8/13: "the ticks of work waiting", "the sum over the queue"
+abbrev pub waitingWork : List Request → ℕ
+waitingWork [] = 0
+waitingWork (r ∷ q) = r .work + waitingWork q
+
+-- as much as can wait: a full queue of the longest works
+abbrev pub maxBacklog : ℕ
+maxBacklog = maxWaiting * maxWork
+
 -- what waits in the array
 abbrev pub waitingOf : Queue → List Request
 waitingOf q = take (q .n) (q .requests)
 
--- the array with a list of waiting requests laid over its front: slots that the list does not reach keep what they held
-abbrev pub queueWith : Queue → List Request → Queue
-queueWith q rs = record { requests = overlay rs (q .requests); n = length rs }
+-- the array with a list of waiting requests laid over its front: slots that the list does not reach keep what they held; and the figure
+-- that stands beside it
+abbrev pub queueWith : Queue → List Request → ℕ → Queue
+queueWith q rs backlog = record { requests = overlay rs (q .requests); n = length rs; backlog = backlog }
 
--- a fresh queue: "nothing is .. waiting", and every slot is 0
+-- a fresh queue: "nothing is .. waiting", and every slot and the figure are 0
 abbrev pub freshQueue : Queue
-freshQueue = record { requests = replicate maxWaiting (record { id = 0; work = 0; arrival = 0 }); n = 0 }
+freshQueue = record { requests = replicate maxWaiting (record { id = 0; work = 0; arrival = 0 }); n = 0; backlog = 0 }
 
 -- some request waits
 abbrev pub waits : List Request → Bool

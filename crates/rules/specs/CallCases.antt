@@ -14,7 +14,7 @@ use Rattle.table.specs.Model.{modelOf}
 use Rattle.table.specs.State.{freshState}
 use Rattle.rules.specs.declared.TickAnswer.{TickAnswer}
 use Rattle.rules.specs.declared.Entry.{Entry}
-use Rattle.rules.specs.Calls.{requestCall, tickCall, runCall, runList, runState}
+use Rattle.rules.specs.Calls.{requestCall, tickCall, runCall, runList, runState, waitingCall}
 use Rattle.rules.specs.Play.{task, server, table, codeOf, stateAt}
 
 abbrev base : State
@@ -37,6 +37,15 @@ waiting n = record {
   table = base .table;
   progress = base .progress;
   queue = filled (record { id = 7; work = 4; arrival = 0 }) n;
+  returns = freshReturns;
+}
+
+-- three requests of 4 ticks each waiting, and b for the figure
+abbrev figured : ℕ → State
+figured b = record {
+  table = base .table;
+  progress = base .progress;
+  queue = record { requests = waiting 3 .queue .requests; n = 3; backlog = b };
   returns = freshReturns;
 }
 
@@ -139,6 +148,21 @@ pub record CallCases : Type 0 where
   pub idle-unmarked : tickCall idly .state .progress .server ≡
       record { budget = 0; sporadic = record { tr = 3; begin = 2; nr = 0; served = false; late = false; above = false; busy = false } }
   pub idle-serves : codeOf (tickCall idly .answer) ≡ 9
+  -- 8/13: an accepted request adds its work, and one that is refused, for its work or for a full queue, adds none
+  pub asked-adds : map (λ w. requestCall (waiting 3) 7 w .state .queue .backlog) (0 ∷ 1 ∷ 60_000 ∷ 60_001 ∷ []) ≡ 12 ∷ 13 ∷ 60_012 ∷ 12 ∷ []
+  pub asked-full-adds : map (λ n. requestCall (waiting n) 7 4 .state .queue .backlog) (23 ∷ 24 ∷ []) ≡ 96 ∷ 96 ∷ []
+  -- a tick by the budget takes one off, and so do those of a run: here two by the budget and one idle
+  pub tick-takes : tickCall (waiting 3) .state .queue .backlog ≡ 11
+  pub run-takes : map (λ k. runCall (waiting 3) k 9 .state .queue .backlog) (0 ∷ 1 ∷ 2 ∷ 3 ∷ []) ≡ 12 ∷ 11 ∷ 10 ∷ 9 ∷ []
+  -- a figure one too small or too large is unfit, whatever the call
+  pub asked-figured : map (λ b. numberOf (requestCall (figured b) 7 4 .answer)) (0 ∷ 11 ∷ 12 ∷ 13 ∷ []) ≡ 11 ∷ 11 ∷ 0 ∷ 11 ∷ []
+  pub tick-figured : map (λ b. refusalOf (tickCall (figured b) .answer)) (0 ∷ 11 ∷ 12 ∷ 13 ∷ []) ≡ 11 ∷ 11 ∷ 0 ∷ 11 ∷ []
+  pub run-figured : map (λ b. numberOf (runCall (figured b) 0 0 .answer)) (0 ∷ 11 ∷ 12 ∷ 13 ∷ []) ≡ 11 ∷ 11 ∷ 0 ∷ 11 ∷ []
+  -- the waiting call: the figure, or 11 with 0 beside it, and no other refusal
+  pub waiting-figured : map (λ b. numberOf (waitingCall (figured b) .answer)) (0 ∷ 11 ∷ 12 ∷ 13 ∷ []) ≡ 11 ∷ 11 ∷ 0 ∷ 11 ∷ []
+  pub waiting-work : map (λ b. waitingCall (figured b) .work) (0 ∷ 11 ∷ 12 ∷ 13 ∷ []) ≡ 0 ∷ 0 ∷ 12 ∷ 0 ∷ []
+  pub waiting-few : map (λ n. waitingCall (waiting n) .work) (0 ∷ 1 ∷ 24 ∷ 25 ∷ []) ≡ 0 ∷ 4 ∷ 96 ∷ 0 ∷ []
+  pub waiting-last : map (λ c. numberOf (waitingCall (atClock c) .answer)) (4_000_000_000 ∷ 4_000_000_001 ∷ []) ≡ 0 ∷ 11 ∷ []
 
 pub call-cases : CallCases
 unfolding overlay
@@ -176,4 +200,15 @@ call-cases = record {
   full-busy = refl;
   idle-unmarked = refl;
   idle-serves = refl;
+  asked-adds = refl;
+  asked-full-adds = refl;
+  tick-takes = refl;
+  run-takes = refl;
+  asked-figured = refl;
+  tick-figured = refl;
+  run-figured = refl;
+  waiting-figured = refl;
+  waiting-work = refl;
+  waiting-few = refl;
+  waiting-last = refl;
 }

@@ -9,7 +9,7 @@ use Rattle.server.specs.Whole.{whole}
 use Rattle.table.specs.declared.Task.{Task}
 use Rattle.table.specs.Model.{modelOf}
 use Rattle.table.specs.State.{setUpCall}
-use Rattle.rules.specs.Play.{task, server, table, Arrival, at, played, stateAt, codeOf, responses, budgets}
+use Rattle.rules.specs.Play.{task, server, table, Arrival, at, played, stateAt, codeOf, responses, budgets, backlogs}
 
 -- each tick as a number, the responses, and the budget after each tick
 abbrev shows : List Task → Server → List Arrival → ℕ → List ℕ × List ℕ × List ℕ
@@ -69,11 +69,21 @@ pub record TickCases : Type 0 where
   -- idle service the responses would be 5 and 2
   pub idle-longer : shows (task 0 6 3 6 ∷ []) (server 1 0 6 3) (at 3 7 2 ∷ at 7 8 1 ∷ []) 10 ≡
       (1 ∷ 1 ∷ 1 ∷ 9 ∷ 9 ∷ 0 ∷ 1 ∷ 1 ∷ 1 ∷ 9 ∷ [], 2 ∷ 3 ∷ [], 0 ∷ 0 ∷ 0 ∷ 0 ∷ 0 ∷ 0 ∷ 0 ∷ 0 ∷ 0 ∷ 0 ∷ [])
+  -- 8/13: the figure after each tick of the same play under every kind, background too: a tick by the budget and an idle one take one off, a
+  -- task's and nobody's none, and the request of tick 8 adds its work
+  pub backlog-each : map (λ s. backlogs (at 0 7 7 ∷ at 8 8 1 ∷ []) 12 (setUpCall (table (task 4 8 2 8 ∷ []) s) .state))
+      (server 0 1 0 0 ∷ server 1 0 5 2 ∷ server 2 0 5 2 ∷ server 3 0 5 2 ∷ server 4 0 5 2 ∷ []) ≡
+      (6 ∷ 5 ∷ 4 ∷ 3 ∷ 3 ∷ 3 ∷ 2 ∷ 1 ∷ 1 ∷ 0 ∷ 0 ∷ 0 ∷ [])
+      ∷ (6 ∷ 5 ∷ 4 ∷ 3 ∷ 3 ∷ 2 ∷ 1 ∷ 1 ∷ 1 ∷ 0 ∷ 0 ∷ 0 ∷ [])
+      ∷ (6 ∷ 5 ∷ 4 ∷ 3 ∷ 3 ∷ 2 ∷ 1 ∷ 1 ∷ 1 ∷ 0 ∷ 0 ∷ 0 ∷ [])
+      ∷ (6 ∷ 5 ∷ 4 ∷ 3 ∷ 2 ∷ 1 ∷ 1 ∷ 1 ∷ 1 ∷ 0 ∷ 0 ∷ 0 ∷ [])
+      ∷ (6 ∷ 5 ∷ 4 ∷ 3 ∷ 3 ∷ 2 ∷ 1 ∷ 1 ∷ 1 ∷ 0 ∷ 0 ∷ 0 ∷ []) ∷ []
   -- the whole model after a play: what is left, what waits, the server and the clock
   pub sporadic-model : modelOf (stateAt (at 1 7 2 ∷ at 3 8 4 ∷ at 6 9 1 ∷ []) 8 (setUpCall (table (task 2 6 2 6 ∷ task 0 9 3 9 ∷ []) (server 3 1 5 2)) .state)) ≡
       record {
         lefts = 0 ∷ 1 ∷ [];
         queue = record { id = 8; work = 2; arrival = 3 } ∷ record { id = 9; work = 1; arrival = 6 } ∷ [];
+        backlog = 3;
         server = whole (record { budget = 0; sporadic = record { tr = 6; begin = 2; nr = 11; served = true; late = false; above = false; busy = true } }) [];
         clock = 8;
       }
@@ -82,6 +92,7 @@ pub record TickCases : Type 0 where
       record {
         lefts = 0 ∷ 0 ∷ [];
         queue = record { id = 8; work = 4; arrival = 3 } ∷ record { id = 9; work = 1; arrival = 6 } ∷ [];
+        backlog = 5;
         server = whole (record { budget = 1; sporadic = record { tr = 0; begin = 0; nr = 0; served = false; late = false; above = false; busy = false } }) [];
         clock = 7;
       }
@@ -90,6 +101,7 @@ pub record TickCases : Type 0 where
       record {
         lefts = 0 ∷ [];
         queue = record { id = 7; work = 1; arrival = 0 } ∷ [];
+        backlog = 1;
         server = whole (record { budget = 0; sporadic = record { tr = 0; begin = 0; nr = 0; served = false; late = false; above = false; busy = false } })
             (record { start = 1; length = 1 } ∷ record { start = 4; length = 1 } ∷ []);
         clock = 5;
@@ -114,6 +126,7 @@ tick-cases = record {
   sporadic-under-tasks = refl;
   idle-each = refl;
   idle-longer = refl;
+  backlog-each = refl;
   sporadic-model = refl;
   polling-model = refl;
   returning-model = refl;

@@ -18,8 +18,9 @@ use Rattle.rules.specs.declared.TickAnswer.{TickAnswer}
 use Rattle.rules.specs.declared.Entry.{Entry}
 use Rattle.rules.specs.declared.Moved.{Moved}
 use Rattle.rules.specs.declared.Ticked.{Ticked}
+use Rattle.rules.specs.declared.Waiting.{Waiting}
 use Rattle.rules.specs.Tick.{Tick}
-use Rattle.rules.specs.Calls.{unless, requestCheck, requestCall, clockAllows, ticked, tickBy, tickCall, entryBy, entryOf, runCheck}
+use Rattle.rules.specs.Calls.{unless, requestCheck, requestCall, clockAllows, ticked, tickBy, tickCall, entryBy, entryOf, runCheck, waitingCheck, waitingCall}
 
 -- ---- what each call says, by the state and what is asked
 -- "request 11, 4, 5": 11 if the state is unfit; else 4 if the work is 0 or above 60,000; else 5 if the queue is full; else 0
@@ -41,6 +42,10 @@ runFigures s k lent =
     (ground (clockPassed s k) 6
     (ground (ltb lent k) 10
     noGround))
+
+-- 8/13, "checks refusal 11 only": 11 if the state is unfit; else 0
+abbrev pub waitingFigures : State → Figures
+waitingFigures s = ground (not (fit s)) 11 noGround
 
 -- a tick's number, its entry ("occupant kind (0 idle, 1 row, 2 request), its row or id (0 for idle) and the drops") and what it finished
 pub record TickFigures : Type 0 where
@@ -105,6 +110,9 @@ tick-figures s =
     by true false = refl
     by true true = refl
 
+pub waiting-figures : (s : State) → figures (waitingCheck s) ≡ waitingFigures s
+waiting-figures s = unless-says (fit s) Refusal.UnfitState Checked.Passed
+
 -- ---- an answer that is the call's says its figures
 pub request-says : (s : State) (id work : ℕ) (m : Moved) → m ≡ requestCall s id work →
     (m ≡ requestCall s id work) × (figures (m .answer) ≡ requestFigures s work)
@@ -112,3 +120,6 @@ request-says s id work m e = (e, ap (λ (x : Moved). figures (x .answer)) e ∙ 
 
 pub tick-says : (s : State) (x : Ticked) → x ≡ tickCall s → (x ≡ tickCall s) × (answerFigures (x .answer) ≡ tickFigures s)
 tick-says s x e = (e, ap (λ (y : Ticked). answerFigures (y .answer)) e ∙ tick-figures s)
+
+pub waiting-says : (s : State) (w : Waiting) → w ≡ waitingCall s → (w ≡ waitingCall s) × (figures (w .answer) ≡ waitingFigures s)
+waiting-says s w e = (e, ap (λ (x : Waiting). figures (x .answer)) e ∙ waiting-figures s)

@@ -23,8 +23,8 @@ use Rattle.server.specs.Held.{holding-fits, fresh-holding}
 use Rattle.server.specs.Server.{freshServer}
 use Rattle.server.specs.Within.{within-later}
 use Rattle.queue.specs.declared.Request.{Request}
-use Rattle.queue.specs.Queue.{maxWaiting, workFits, requestsFit}
-use Rattle.queue.specs.Laws.{fit-later, fit-presented}
+use Rattle.queue.specs.Queue.{maxWaiting, workFits, waitingWork, requestsFit}
+use Rattle.queue.specs.Laws.{fit-later, fit-presented, presented-work}
 use Rattle.table.specs.declared.Task.{Task}
 use Rattle.table.specs.declared.Table.{Table}
 use Rattle.table.specs.declared.State.{State}
@@ -39,7 +39,7 @@ use Rattle.rules.specs.declared.Turn.{Turn}
 use Rattle.rules.specs.Tick.{expires, opened, workedTasks, turnAt, leftsAt, seenAt, kindAt, busyAt}
 use Rattle.rules.specs.Calls.{unless, asked, requestCheck, requestCall, clockAllows, ticked, stateAfter, tickCall, tickBy, entryOf, runState, runCall}
 use Rattle.rules.specs.ServerKept.{Keeps, server-keeps, held-few, served-eligible}
-use Rattle.rules.specs.Fitness.{opened-fit, worked-fit, queue-fit, queue-shorter}
+use Rattle.rules.specs.Fitness.{opened-fit, worked-fit, queue-fit, queue-shorter, backlog-fit}
 
 -- ---- a model written over a state reads back as itself
 -- the stretches do, but for a count above 32, which kind 4 refuses: there they must be those that stand in the array
@@ -49,7 +49,7 @@ Rereads s m = heldOf (writtenReturns (s .returns) (m .server .returns)) ≡ m .s
 pub reads-written : (s : State) (m : Model) → length (m .lefts) ≡ s .table .n → Rereads s m → modelOf (written s m) ≡ m
 reads-written s m e r =
     rw (take-overlay (s .table .n) (m .lefts) (s .progress .left) e, take-overlay (length (m .queue)) (m .queue) (s .queue .requests) refl)
-    (ap (λ (us : List Stretch). record { lefts = m .lefts; queue = m .queue; server = whole (m .server .part) us; clock = m .clock }) r)
+    (ap (λ (us : List Stretch). record { lefts = m .lefts; queue = m .queue; backlog = m .backlog; server = whole (m .server .part) us; clock = m .clock }) r)
 
 -- ---- the arrays of a struct have their declared lengths
 pub record Sized (s : State) : Type 0 where
@@ -128,6 +128,9 @@ tick-fit s z e c = (facts-fit (stateAfter s) after, written-sized s (ticked s .n
           subst (λ (m : Model). requestsFit (s .progress .clock + 1) (m .queue) ≡ true) (sym reads)
           (queue-fit (turnAt (taskSetOf (s .table)) (modelOf s)) (s .progress .clock + 1) (modelOf s .queue)
           (fit-later (s .progress .clock) (modelOf s .queue) (h .requests)));
+      backlog =
+          subst (λ (m : Model). ticked s .next .backlog ≡ waitingWork (m .queue)) (sym reads)
+          (backlog-fit (turnAt (taskSetOf (s .table)) (modelOf s)) (s .progress .clock) (modelOf s .queue) (s .queue .backlog) (h .requests) (h .backlog));
     }
 
 -- ---- a tick drops no more jobs than there are tasks in use
@@ -202,6 +205,9 @@ request-fit s id work z ok = (
       requests =
           subst (λ (m : Model). requestsFit (s .progress .clock) (m .queue) ≡ true) (sym reads)
           (fit-presented (s .progress .clock) id work (modelOf s .queue) (ok .allowed) (h .requests));
+      backlog =
+          subst (λ (m : Model). s .queue .backlog + work ≡ waitingWork (m .queue)) (sym reads)
+          (omega (arith, h .backlog, presented-work id work (s .progress .clock) (modelOf s .queue)));
     }
 
 -- ---- a fit state's run leaves it fit
@@ -260,6 +266,7 @@ fresh-fit t e =
         times = record { tr = omega arith; begin = omega arith; nr = omega arith };
       };
       requests = refl;
+      backlog = refl;
       returns = fresh-returns (kindOf (t .server .kind)) (t .server);
     })
 

@@ -75,6 +75,13 @@ byBudget (Turn.Task i) = false
 byBudget Turn.Budget = true
 byBudget Turn.Spare = false
 
+-- a turn that goes to a request: by the budget, or idle
+abbrev pub toRequest : Turn → Bool
+toRequest Turn.Nobody = false
+toRequest (Turn.Task i) = false
+toRequest Turn.Budget = true
+toRequest Turn.Spare = true
+
 -- ---- step 5: the occupant's work
 -- "The occupant loses one tick of work": a task
 abbrev pub workedTasks : Turn → List ℕ → List ℕ
@@ -89,6 +96,10 @@ workedQueue Turn.Nobody q = q
 workedQueue (Turn.Task i) q = q
 workedQueue Turn.Budget q = served q
 workedQueue Turn.Spare q = served q
+
+-- 8/13: "a tick that goes to a request, under any kind, takes one off"
+abbrev pub workedBacklog : Turn → ℕ → ℕ
+workedBacklog turn backlog = cond (toRequest turn) (backlog - 1) backlog
 
 abbrev pub finishOf : ℕ → Turn → List Request → Finish
 finishOf t Turn.Nobody q = Finish.Nothing
@@ -159,6 +170,7 @@ tick p m = record {
   next = record {
     lefts = workedTasks (turnAt p m) (leftsAt p m);
     queue = workedQueue (turnAt p m) (m .queue);
+    backlog = workedBacklog (turnAt p m) (m .backlog);
     server = consumeWhole (kindAt p) (p .server) (serverAt p m) (seenAt p m);
     clock = m .clock + 1;
   };

@@ -16,7 +16,7 @@ use Rattle.queue.specs.declared.Queue.{Queue}
 use Rattle.queue.specs.Queue.{waits, waitingOf, maxWaiting}
 use Rattle.queue.specs.Steps.{servedQueue}
 use Rattle.queue.specs.Laws.{served-empties}
-use Rattle.scheduler.specs.Service.{noRequest, headWork, worked, headLess, shown, givenAfter}
+use Rattle.scheduler.specs.Service.{noRequest, headWork, worked, headLess, backlogLess, shown, givenAfter}
 use Rattle.scheduler.specs.Work.{ends, headOf}
 
 -- ---- the array
@@ -30,9 +30,15 @@ less-head zero r rs =
     ap (λ (w : ℕ). record { id = r .id; work = w; arrival = r .arrival } ∷ rs) e
 less-head (suc g) r rs = refl
 
-pub shown-is : (q : Queue) (g : ℕ) → (g ≡ 0 → ⊥) → record { requests = set (q .requests) 0 (worked g (getD (q .requests) 0 noRequest)); n = q .n } ≡ shown g q
-shown-is q zero some = absurd (some refl)
-shown-is q (suc g) some = refl
+pub shown-is : (q : Queue) (g b : ℕ) → (g ≡ 0 → ⊥) → b ≡ q .backlog - g →
+    record { requests = set (q .requests) 0 (worked g (getD (q .requests) 0 noRequest)); n = q .n; backlog = b } ≡ shown g q
+shown-is q zero b some e = absurd (some refl)
+shown-is q (suc g) b some e = rw e
+
+-- ---- the figure
+one-less : (g b : ℕ) → backlogLess g b - 1 ≡ b - suc g
+one-less zero b = refl
+one-less (suc g) b = omega arith
 
 -- ---- the head
 ends-is : (n g : ℕ) (rs : List Request) → 0 < n → n ≤ length rs → ends (take n (headLess g rs)) ≡ leb (getD rs 0 noRequest .work - g) 1
@@ -48,15 +54,15 @@ head-is (suc n) g [] a h = absurd (omega arith)
 head-is (suc n) g (r ∷ rs) a h = rw (less-head g r rs, served-empties noRequest (suc n) (worked g r ∷ rs) a h)
 
 -- ---- one tick of service more, that is not the head's last
-served-more : (n g : ℕ) (rs : List Request) → n ≤ maxWaiting → n ≤ length rs → ends (take n (headLess g rs)) ≡ false →
-    servedQueue (record { requests = headLess g rs; n = n }) ≡ record { requests = headLess (suc g) rs; n = n }
+served-more : (n g b : ℕ) (rs : List Request) → n ≤ maxWaiting → n ≤ length rs → ends (take n (headLess g rs)) ≡ false →
+    servedQueue (record { requests = headLess g rs; n = n; backlog = backlogLess g b }) ≡ record { requests = headLess (suc g) rs; n = n; backlog = b - suc g }
 unfolding overlay
-served-more zero g rs few h e = never e refl
-served-more (suc n) g [] few h e = absurd (omega arith)
-served-more (suc n) g (r ∷ rs) few h e =
+served-more zero g b rs few h e = never e refl
+served-more (suc n) g b [] few h e = absurd (omega arith)
+served-more (suc n) g b (r ∷ rs) few h e =
     let f : leb (r .work - g) 1 ≡ false = sym (ends-is (suc n) g (r ∷ rs) (omega arith) h) ∙ e in
     let w : r .work - g - 1 ≡ r .work - suc g = omega arith in
-    rw (less-head g r rs, le-leb (suc n) maxWaiting few, f, w, length-take-le n rs (omega arith), take-append-drop n rs)
+    rw (less-head g r rs, le-leb 1 (suc n) (omega arith), le-leb (suc n) maxWaiting few, f, w, one-less g b, length-take-le n rs (omega arith), take-append-drop n rs)
 
 more-work : (n g : ℕ) (rs : List Request) → ends (take n (headLess g rs)) ≡ false → n ≤ length rs → g < getD rs 0 noRequest .work
 more-work zero g rs e h = never e refl
@@ -70,7 +76,7 @@ module _ (c : Queue) (g : ℕ) (few : c .n ≤ maxWaiting) (long : length (c .re
       cond serves (servedQueue (shown g c)) (shown g c) ≡ shown (givenAfter serves e g) c
   counted false e is stays = refl
   counted true true is stays = never stays refl
-  counted true false is stays = rw add-one (served-more (c .n) g (c .requests) few (omega arith) is)
+  counted true false is stays = rw add-one (served-more (c .n) g (c .backlog) (c .requests) few (omega arith) is)
 
   pub counted-within : (serves e : Bool) → ends (waitingOf (shown g c)) ≡ e → serves && e ≡ false → g ≤ headWork c → givenAfter serves e g ≤ headWork c
   counted-within false e is stays h = h

@@ -28,7 +28,7 @@ use Rattle.queue.specs.declared.Queue.{Queue}
 use Rattle.queue.specs.declared.Finish.{Finish}
 use Rattle.queue.specs.Queue.{waits, headId, finished, waitingOf, queueWith, maxWaiting}
 use Rattle.queue.specs.Steps.{servedQueue}
-use Rattle.queue.specs.Laws.{served-with}
+use Rattle.queue.specs.Laws.{waits-some, served-with}
 use Rattle.table.specs.declared.Table.{Table}
 use Rattle.table.specs.declared.Progress.{Progress}
 use Rattle.table.specs.declared.State.{State}
@@ -38,9 +38,10 @@ use Rattle.rules.specs.declared.Turn.{Turn}
 use Rattle.rules.specs.declared.Occupant.{Occupant}
 use Rattle.rules.specs.declared.Entry.{Entry}
 use Rattle.rules.specs.declared.TickAnswer.{TickAnswer}
-use Rattle.rules.specs.Tick.{opened, anyOpen, firstOpen, choose, byBudget, workedTasks, workedQueue, occupantOf, finishOf, seenBy, turnAt, aboveAt, busyAt, serverAt, mayAt, seenAt}
+use Rattle.rules.specs.Tick.{opened, anyOpen, firstOpen, choose, byBudget, toRequest, workedTasks, workedQueue, workedBacklog, occupantOf, finishOf, seenBy, turnAt, aboveAt, busyAt, serverAt, mayAt, seenAt}
 use Rattle.rules.specs.Calls.{ticked, stateAfter, ranBy, entryBy, entryOf}
 use Rattle.rules.specs.ServerKept.{served-eligible}
+use Rattle.rules.specs.Waiting.{request-waits}
 use Rattle.scheduler.specs.declared.opening.Opened.{Opened}
 use Rattle.scheduler.specs.declared.work.Head.{Head}
 use Rattle.scheduler.specs.declared.replenishment.Started.{Started}
@@ -49,7 +50,7 @@ use Rattle.scheduler.specs.Decision.{calmOf, edgeAt, holdsAt, movesAt, a
 use Rattle.scheduler.specs.Opening.{CalmFor, calmAfter, openedBy, leftsBy, startedBy}
 use Rattle.scheduler.specs.Parts.{stateOf, mayRun}
 use Rattle.scheduler.specs.Service.{headWork, shown, givenAfter}
-use Rattle.scheduler.specs.Work.{ends, headOf, toRequest, IsFirst, seenOf}
+use Rattle.scheduler.specs.Work.{ends, headOf, IsFirst, seenOf}
 use Rattle.scheduler.specs.Laws.{may-fit}
 use Rattle.scheduler.proofs.Due.{calm-on}
 use Rattle.scheduler.proofs.Given.{less-length, counted, counted-within, one-more}
@@ -248,21 +249,22 @@ calm-after s c may long calm =
     calm-on (s .progress .clock) (s .table .tasks) (s .table .n) c (λ i h. task-at (s .table) i limits h (omega (arith, long, limits .count))) calm
 
 -- ---- the queue after a tick: it stays, or its head is served
-queue-stays : (q : Queue) → q .n ≤ length (q .requests) → queueWith q (waitingOf q) ≡ q
+queue-stays : (q : Queue) → q .n ≤ length (q .requests) → queueWith q (waitingOf q) (q .backlog) ≡ q
 queue-stays q h = rw (overlay-take (q .n) (q .requests), length-take-le (q .n) (q .requests) h)
 
 module _ (s : State) (room : s .queue .n ≤ maxWaiting) (long : length (s .queue .requests) ≡ maxWaiting) where
-  after-stay : (turn : Turn) → toRequest turn ≡ false → s .queue ≡ queueWith (s .queue) (workedQueue turn (waitingOf (s .queue)))
+  after-stay : (turn : Turn) → toRequest turn ≡ false → s .queue ≡ queueWith (s .queue) (workedQueue turn (waitingOf (s .queue))) (workedBacklog turn (s .queue .backlog))
   after-stay Turn.Nobody e = sym (queue-stays (s .queue) (omega (arith, long)))
   after-stay (Turn.Task i) e = sym (queue-stays (s .queue) (omega (arith, long)))
   after-stay Turn.Budget e = never e refl
   after-stay Turn.Spare e = never e refl
 
-  after-serve : (turn : Turn) → toRequest turn ≡ true → servedQueue (s .queue) ≡ queueWith (s .queue) (workedQueue turn (waitingOf (s .queue)))
-  after-serve Turn.Nobody e = never refl e
-  after-serve (Turn.Task i) e = never refl e
-  after-serve Turn.Budget e = served-with (s .queue) room
-  after-serve Turn.Spare e = served-with (s .queue) room
+  after-serve : (turn : Turn) → toRequest turn ≡ true → 1 ≤ s .queue .n →
+      servedQueue (s .queue) ≡ queueWith (s .queue) (workedQueue turn (waitingOf (s .queue))) (workedBacklog turn (s .queue .backlog))
+  after-serve Turn.Nobody e h = never refl e
+  after-serve (Turn.Task i) e h = never refl e
+  after-serve Turn.Budget e h = served-with (s .queue) h room
+  after-serve Turn.Spare e h = served-with (s .queue) h room
 
   finish-some : (t : ℕ) (turn : Turn) (q : List Request) → toRequest turn ≡ true → finished t q ≡ finishOf t turn q
   finish-some t Turn.Nobody q e = never refl e
@@ -279,8 +281,12 @@ module _ (s : State) (room : s .queue .n ≤ maxWaiting) (long : length (s .queu
   abbrev now : Turn
   now = turnAt (taskSetOf (s .table)) (modelOf s)
 
+  -- a request that has the tick waits
+  some-waits : toRequest now ≡ true → 1 ≤ s .queue .n
+  some-waits e = waits-some (s .queue) (request-waits (taskSetOf (s .table)) (modelOf s) e)
+
   pub queue-after : (b : Bool) → toRequest (turnAt (taskSetOf (s .table)) (modelOf s)) ≡ b → cond b (servedQueue (s .queue)) (s .queue) ≡ stateAfter s .queue
-  queue-after true e = after-serve now e
+  queue-after true e = after-serve now e (some-waits e)
   queue-after false e = after-stay now e
 
   -- the answer of a tick, served or not
@@ -296,7 +302,7 @@ module _ (s : State) (room : s .queue .n ≤ maxWaiting) (long : length (s .queu
         record { answer = TickAnswer.Ran o (d .drops) f; state = record { table = s .table; progress = d .progress; queue = q; returns = r } } ≡ ranBy s (ticked s)
     ran-served b e y f q r ef eq er =
         let v : toRequest now ≡ true = turns b e true y in
-        rw (occupant, ed, ef, finish-some (s .progress .clock) now (waitingOf (s .queue)) v, eq, after-serve now v, er)
+        rw (occupant, ed, ef, finish-some (s .progress .clock) now (waitingOf (s .queue)) v, eq, after-serve now v (some-waits v), er)
 
     pub ran-stays : (b : Bool) → b ≡ toRequest (d .turn) → b ≡ false → (r : Returns) → r ≡ stateAfter s .returns →
         record { answer = TickAnswer.Ran o (d .drops) Finish.Nothing; state = record { table = s .table; progress = d .progress; queue = s .queue; returns = r } } ≡ ranBy s (ticked s)

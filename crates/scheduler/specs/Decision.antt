@@ -13,13 +13,13 @@ use Rattle.table.specs.declared.State.{State}
 use Rattle.table.specs.Model.{taskSetOf, modelOf}
 use Rattle.rules.specs.declared.Turn.{Turn}
 use Rattle.rules.specs.declared.Occupant.{Occupant}
-use Rattle.rules.specs.Tick.{turnAt, byBudget}
+use Rattle.rules.specs.Tick.{turnAt, byBudget, toRequest}
 use Rattle.rules.specs.Calls.{ticked, stateAfter, entryOf}
 use Rattle.scheduler.specs.declared.decision.Decision.{Decision}
 use Rattle.scheduler.specs.declared.running.Recorded.{Recorded}
 use Rattle.scheduler.specs.Parts.{stateOf, mayRun}
 use Rattle.scheduler.specs.Opening.{CalmFor, calmAfter}
-use Rattle.scheduler.specs.Work.{ends, headOf, toRequest}
+use Rattle.scheduler.specs.Work.{ends, headOf}
 use Rattle.scheduler.specs.Service.{headWork, shown, givenAfter}
 
 -- how long the calm is known to last after the tick of a state

@@ -1,16 +1,17 @@
-// The calls that move a state: a request, a tick, a run of ticks. A file for each step of a tick has that step's code: `opening` has
+// The calls that move a state, a request, a tick, a run of ticks, and the one that reads the work that waits. A file for each step of a tick has that step's code: `opening` has
 // steps 1 and 2, `replenishment` step 3, `choice` step 4, `work` step 5, and `decision` puts them together with step 6. `ticking` is
 // the tick of the tick call; `running` and `service` are the ticks of a run.
 ghost use lib.ListN.{length};
 ghost use mathlib.Core.Path.{_≡_};
 ghost use Rattle.table.specs.Refusal.{figures};
-ghost use Rattle.rules.specs.Calls.{requestCall, tickCall, runCall, runList};
-ghost use Rattle.rules.specs.Figures.{requestFigures, answerFigures, tickFigures, runFigures};
+ghost use Rattle.rules.specs.Calls.{requestCall, tickCall, runCall, runList, waitingCall};
+ghost use Rattle.rules.specs.Figures.{requestFigures, answerFigures, tickFigures, runFigures, waitingFigures};
 ghost use Rattle.scheduler.specs.Parts.{blockTicks, blockCall};
 use rules::Entry;
 use rules::Moved;
 use rules::TickAnswer;
 use rules::Ticked;
+use rules::Waiting;
 use running::check_run;
 use running::record_tick;
 use running::settle;
@@ -84,6 +85,24 @@ pub fn request(state: State, id: u32, work: u32) -> Moved
             queue: queue.push(id, work, progress.clock),
             returns,
         },
+    }
+}
+
+// The waiting call: the ticks of work that wait, as the state holds them, or refusal 11.
+pub fn waiting(state: State) -> Waiting
+    ensures { λ r. ⌜ (r ≡ waitingCall state) × (figures (r .answer) ≡ waitingFigures state) ⌝ }
+{
+    if !state.fit() {
+        let unfit = Checked::Refused(Refusal::UnfitState);
+        return Waiting {
+            answer: unfit,
+            work: 0,
+        };
+    }
+    let queue = state.queue;
+    Waiting {
+        answer: Checked::Passed,
+        work: queue.backlog,
     }
 }
 

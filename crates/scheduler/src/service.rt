@@ -17,8 +17,10 @@ pub fn show_given(queue: Queue, given: u32) -> Queue
     let mut head = queue.requests[0];
     let work = head.work;
     head.work = work - given;
+    let backlog = lists::saturating_sub(queue.backlog, given);
     let mut next = queue;
     next.requests[0] = head;
+    next.backlog = backlog;
     next
 }
 

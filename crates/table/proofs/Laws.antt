@@ -11,7 +11,7 @@ use lib.Seq.{length-take-le}
 use Rattle.lists.specs.Lists.{allWith}
 use Rattle.server.specs.Limits.{lastClock}
 use Rattle.queue.specs.Queue.{maxWaiting, waitingOf, requestsFit}
-use Rattle.queue.specs.Steps.{queueFits}
+use Rattle.queue.specs.Steps.{backlogFits, queueFits}
 use Rattle.table.specs.declared.Task.{Task}
 use Rattle.table.specs.declared.Table.{Table}
 use Rattle.table.specs.declared.State.{State}
@@ -90,33 +90,35 @@ fit-order s =
     order (passed (tableCheck (s .table))) (leb (s .queue .n) maxWaiting) (leb (s .progress .clock) lastClock)
     (allWith leftFits (take (s .table .n) (s .table .tasks)) (take (s .table .n) (s .progress .left)))
     (serverStateFits (s .table .server) (s .progress .clock) (s .progress .server))
-    (requestsFit (s .progress .clock) (waitingOf (s .queue))) (stateReturnsFit s)
+    (requestsFit (s .progress .clock) (waitingOf (s .queue))) (backlogFits (s .queue .backlog) (waitingOf (s .queue))) (stateReturnsFit s)
   where
-    zero-and : (l r : Bool) → (l && false) && r ≡ false
-    zero-and true r = refl
-    zero-and false r = refl
+    zero-and : (l r f : Bool) → (l && false && r) && f ≡ false
+    zero-and true r f = refl
+    zero-and false r f = refl
 
-    last : (l r : Bool) → (l && true) && r ≡ r && (true && l)
-    last true true = refl
-    last true false = refl
-    last false true = refl
-    last false false = refl
+    last : (l r f : Bool) → (l && true && r) && f ≡ (r && f) && (true && l)
+    last true true true = refl
+    last true true false = refl
+    last true false f = refl
+    last false true true = refl
+    last false true false = refl
+    last false false f = refl
 
     none : (r l : Bool) → false ≡ r && (false && l)
     none true l = refl
     none false l = refl
 
-    order : (a q c l v r h : Bool) → (a && q && h) && (c && l && v && r) ≡ a && (c && (v && ((q && r) && (h && l))))
-    order false q c l v r h = refl
-    order true false false l v r h = refl
-    order true false true l true r h = refl
-    order true false true l false r h = refl
-    order true true false l v r true = refl
-    order true true false l v r false = refl
-    order true true true l false r true = zero-and l r
-    order true true true l false r false = refl
-    order true true true l true r true = last l r
-    order true true true l true r false = none r l
+    order : (a q c l v r f h : Bool) → (a && q && h) && (c && l && v && r && f) ≡ a && (c && (v && ((q && r && f) && (h && l))))
+    order false q c l v r f h = refl
+    order true false false l v r f h = refl
+    order true false true l true r f h = refl
+    order true false true l false r f h = refl
+    order true true false l v r f true = refl
+    order true true false l v r f false = refl
+    order true true true l false r f true = zero-and l r f
+    order true true true l false r f false = refl
+    order true true true l true r f true = last l r f
+    order true true true l true r f false = none (r && f) l
 
 -- what the answer of the check says
 pub unfit-table : (s : State) (a : Checked) (r : Refusal) → a ≡ tableCheck (s .table) → a ≡ Checked.Refused r → false ≡ fit s

@@ -10,7 +10,7 @@ use Rattle.server.specs.Whole.{whole}
 use Rattle.server.specs.declared.Server.{Server}
 use Rattle.server.specs.declared.Stretch.{Stretch}
 use Rattle.queue.specs.declared.Queue.{Queue}
-use Rattle.queue.specs.Queue.{freshQueue, queueWith}
+use Rattle.queue.specs.Queue.{freshQueue, waitingOf, queueWith}
 use Rattle.queue.specs.Cases.{filled}
 use Rattle.table.specs.declared.Task.{Task}
 use Rattle.table.specs.declared.Table.{Table}
@@ -66,7 +66,7 @@ stood s left b tr begin nr clock q = record {
 }
 
 abbrev waiting : ℕ → ℕ → Queue
-waiting w a = queueWith freshQueue (record { id = 0; work = w; arrival = a } ∷ [])
+waiting w a = queueWith freshQueue (record { id = 0; work = w; arrival = a } ∷ []) w
 
 pub record LimitCases : Type 0 where
   -- "1 ≤ e ≤ D ≤ p ≤ 60,000 and f ≤ 60,000"
@@ -131,20 +131,23 @@ pub record LimitCases : Type 0 where
   pub arrival-past : fit (stood fine [] 2 0 0 0 9 (waiting 1 10)) ≡ false
   -- 6/13: 24 may wait, and 64, the limit before it, may not
   pub waiting-limits : map (λ n. fit (stood fine [] 2 0 0 0 9 (filled (record { id = 0; work = 1; arrival = 0 }) n))) (23 ∷ 24 ∷ 25 ∷ 64 ∷ []) ≡ true ∷ true ∷ false ∷ false ∷ []
+  -- 8/13: one waits with 5 ticks of work, and the figure says so, or less or more; in a fresh queue it is 0
+  pub figures : map (λ b. fit (stood fine [] 2 0 0 0 9 (queueWith (waiting 5 9) (waitingOf (waiting 5 9)) b))) (0 ∷ 4 ∷ 5 ∷ 6 ∷ 10 ∷ []) ≡ false ∷ false ∷ true ∷ false ∷ false ∷ []
+  pub no-figure : map (λ b. fit (stood fine [] 2 0 0 0 9 (queueWith freshQueue [] b))) (0 ∷ 1 ∷ []) ≡ true ∷ false ∷ []
   pub table-unfit : fit (stood (server 5 0 5 2) [] 2 0 0 0 9 freshQueue) ≡ false
   -- 3/13: of kind 4 alone, held ticks plus b are B; here none is held and B is 2
   pub less-budget : map (λ k. fit (stood (server k 0 5 2) [] 1 0 0 0 9 freshQueue)) (1 ∷ 2 ∷ 3 ∷ 4 ∷ []) ≡ true ∷ true ∷ true ∷ false ∷ []
   pub full-budget : map (λ k. fit (stood (server k 0 5 2) [] 2 0 0 0 9 freshQueue)) (1 ∷ 2 ∷ 3 ∷ 4 ∷ []) ≡ true ∷ true ∷ true ∷ true ∷ []
   -- a model written over a state reads back, and the slots it does not reach stay
   pub written-held :
-      modelOf (written (stood fine [] 1 0 0 0 9 freshQueue) (record { lefts = 0 ∷ []; queue = []; server = whole (stood fine [] 1 0 0 0 9 freshQueue .progress .server) (held 8 1 ∷ []); clock = 10 })) .server .returns
+      modelOf (written (stood fine [] 1 0 0 0 9 freshQueue) (record { lefts = 0 ∷ []; queue = []; backlog = 0; server = whole (stood fine [] 1 0 0 0 9 freshQueue .progress .server) (held 8 1 ∷ []); clock = 10 })) .server .returns
       ≡ held 8 1 ∷ []
   pub written-back :
-      written (stood fine (1 ∷ 7 ∷ []) 2 0 0 0 9 (waiting 5 9)) (record { lefts = 2 ∷ []; queue = []; server = whole (stood fine [] 1 0 0 0 9 freshQueue .progress .server) []; clock = 10 }) ≡
+      written (stood fine (1 ∷ 7 ∷ []) 2 0 0 0 9 (waiting 5 9)) (record { lefts = 2 ∷ []; queue = []; backlog = 3; server = whole (stood fine [] 1 0 0 0 9 freshQueue .progress .server) []; clock = 10 }) ≡
       record {
         table = table (good ∷ []) 1 fine;
         progress = stood fine (2 ∷ 7 ∷ []) 1 0 0 0 10 freshQueue .progress;
-        queue = record { requests = waiting 5 9 .requests; n = 0 };
+        queue = record { requests = waiting 5 9 .requests; n = 0; backlog = 3 };
         returns = freshReturns;
       }
 
@@ -186,6 +189,8 @@ limit-cases = record {
   work-past = refl;
   arrival-past = refl;
   waiting-limits = refl;
+  figures = refl;
+  no-figure = refl;
   table-unfit = refl;
   less-budget = refl;
   full-budget = refl;

@@ -4,7 +4,7 @@ use native.Mathlib.Omega.{arith}
 use mathlib.Core.Path.{_≡_, refl, sym, ap, _∙_}
 use mathlib.Core.Bool.{Bool, true, false, cond, not, _&&_}
 use mathlib.Core.List.{List, [], _∷_}
-use borrow.Author.Tests.{leb-true, eqb-true, ltb-false, le-leb}
+use borrow.Author.Tests.{leb-true, eqb-true, eq-eqb, ltb-false, le-leb}
 use lib.ListN.{length, take, getD, length-take}
 use lib.Seq.{take-all}
 use lib.Dec.{leb, ltb}
@@ -16,7 +16,8 @@ use Rattle.server.specs.declared.Server.{Server}
 use Rattle.server.specs.declared.ServerState.{ServerState}
 use Rattle.server.specs.Kind.{kindOf}
 use Rattle.server.specs.Within.{Within}
-use Rattle.queue.specs.Queue.{maxWaiting, waitingOf, requestsFit}
+use Rattle.queue.specs.Queue.{maxWaiting, waitingWork, waitingOf, requestsFit}
+use Rattle.queue.specs.Steps.{backlogFits}
 use Rattle.table.specs.declared.Task.{Task}
 use Rattle.table.specs.declared.Table.{Table}
 use Rattle.table.specs.declared.State.{State}
@@ -157,6 +158,7 @@ pub record StateFacts (s : State) : Type 0 where
   pub server : Within (s .table .server) (s .progress .clock) (s .progress .server)
   pub waiting : s .queue .n ≤ maxWaiting
   pub requests : requestsFit (s .progress .clock) (waitingOf (s .queue)) ≡ true
+  pub backlog : s .queue .backlog ≡ waitingWork (waitingOf (s .queue))
   pub returns : stateReturnsFit s ≡ true
 
 pub server-within : (s : Server) (clock : ℕ) (x : ServerState) → serverStateFits s clock x ≡ true → Within s clock x
@@ -189,12 +191,16 @@ module _ (s : State) where
   abbrev waitingFit : Bool
   waitingFit = requestsFit (s .progress .clock) (waitingOf (s .queue))
 
+  abbrev figureFits : Bool
+  figureFits = backlogFits (s .queue .backlog) (waitingOf (s .queue))
+
   pub fit-facts : fit s ≡ true → StateFacts s
   fit-facts e =
       let a = and-split (passed (tableCheck (s .table)) && leb (s .queue .n) maxWaiting && stateReturnsFit s) (modelFits (taskSetOf (s .table)) (modelOf s)) e in
       let d = and-split (passed (tableCheck (s .table)) && leb (s .queue .n) maxWaiting) (stateReturnsFit s) (a .0) in
       let b = and-split (passed (tableCheck (s .table))) (leb (s .queue .n) maxWaiting) (d .0) in
-      let r = and-split (clockFits && leftsFit && budgetFits) waitingFit (a .1) in
+      let g = and-split (clockFits && leftsFit && budgetFits && waitingFit) figureFits (a .1) in
+      let r = and-split (clockFits && leftsFit && budgetFits) waitingFit (g .0) in
       let v = and-split (clockFits && leftsFit) budgetFits (r .0) in
       let c = and-split clockFits leftsFit (v .0) in
       record {
@@ -204,6 +210,7 @@ module _ (s : State) where
         server = server-within (s .table .server) (s .progress .clock) (s .progress .server) (v .1);
         waiting = leb-true _ _ (b .1);
         requests = r .1;
+        backlog = eqb-true _ _ (g .1);
         returns = d .1;
       }
 
@@ -212,7 +219,9 @@ module _ (s : State) where
       and-join (passed (tableCheck (s .table)) && leb (s .queue .n) maxWaiting && stateReturnsFit s) (modelFits (taskSetOf (s .table)) (modelOf s))
       (and-join (passed (tableCheck (s .table)) && leb (s .queue .n) maxWaiting) (stateReturnsFit s)
       (and-join (passed (tableCheck (s .table))) (leb (s .queue .n) maxWaiting) (f .passes) (le-leb _ _ (f .waiting))) (f .returns))
+      (and-join (clockFits && leftsFit && budgetFits && waitingFit) figureFits
       (and-join (clockFits && leftsFit && budgetFits) waitingFit
       (and-join (clockFits && leftsFit) budgetFits (and-join clockFits leftsFit (le-leb _ _ (f .clock)) (f .lefts))
       (within-server (s .table .server) (s .progress .clock) (s .progress .server) (f .server)))
       (f .requests))
+      (eq-eqb _ _ (f .backlog)))

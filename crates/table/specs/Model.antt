@@ -1,4 +1,4 @@
--- What the structs stand for: the tasks in use, what is left of each, the requests that wait, the server's state and the clock.
+-- What the structs stand for: the tasks in use, what is left of each, the requests that wait and their work, the server's state and the clock.
 -- The rules are defined over this model; the structs' unused slots are no part of it.
 use Prim.Native.Nat.{ℕ}
 use mathlib.Core.List.{List}
@@ -18,10 +18,12 @@ pub record TaskSet : Type 0 where
   pub tasks : List Task
   pub server : Server
 
--- what a call moves: each task's execution left, the requests in their order, the server's state, the clock
+-- what a call moves: each task's execution left, the requests in their order, the figure of the work that waits (8/13: "The state shall hold
+-- this sum"), the server's state, the clock
 pub record Model : Type 0 where
   pub lefts : List ℕ
   pub queue : List Request
+  pub backlog : ℕ
   pub server : Whole
   pub clock : ℕ
 
@@ -36,6 +38,7 @@ abbrev pub modelOf : State → Model
 modelOf s = record {
   lefts = take (s .table .n) (s .progress .left);
   queue = waitingOf (s .queue);
+  backlog = s .queue .backlog;
   server = whole (s .progress .server) (heldOf (s .returns));
   clock = s .progress .clock;
 }
@@ -45,6 +48,6 @@ abbrev pub written : State → Model → State
 written s m = record {
   table = s .table;
   progress = record { left = overlay (m .lefts) (s .progress .left); server = m .server .part; clock = m .clock };
-  queue = queueWith (s .queue) (m .queue);
+  queue = queueWith (s .queue) (m .queue) (m .backlog);
   returns = writtenReturns (s .returns) (m .server .returns);
 }

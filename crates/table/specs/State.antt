@@ -14,6 +14,7 @@ use Rattle.server.specs.Server.{freshServer}
 use Rattle.server.specs.Returns.{freshReturns}
 use Rattle.server.specs.Whole.{wholeFits}
 use Rattle.queue.specs.Queue.{maxWaiting, freshQueue, requestsFit}
+use Rattle.queue.specs.Steps.{backlogFits}
 use Rattle.table.specs.declared.Task.{Task}
 use Rattle.table.specs.declared.Table.{Table}
 use Rattle.table.specs.declared.State.{State}
@@ -56,11 +57,13 @@ sporadicFits clock x = leb (x .tr) clock && leb (x .begin) clock && leb (x .nr) 
 abbrev pub serverStateFits : Server → ℕ → ServerState → Bool
 serverStateFits s clock x = leb (x .budget) (s .budget) && sporadicFits clock (x .sporadic)
 
--- "a waiting work outside 1 to 60,000, .. a clock above its limit, an arrival .. after the clock"
+-- "a waiting work outside 1 to 60,000, .. a clock above its limit, an arrival .. after the clock"; 8/13: "A state whose stored figure differs
+-- from that sum is unfit and gives refusal 11."
 abbrev pub modelFits : TaskSet → Model → Bool
 modelFits p m =
     leb (m .clock) lastClock && allWith leftFits (p .tasks) (m .lefts)
     && serverStateFits (p .server) (m .clock) (m .server .part) && requestsFit (m .clock) (m .queue)
+    && backlogFits (m .backlog) (m .queue)
 
 -- 3/13: "A state of kind 4 is also unfit if .."
 abbrev pub stateReturnsFit : State → Bool

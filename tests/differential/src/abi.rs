@@ -66,6 +66,7 @@ pub struct Request {
 pub struct Queue {
     pub requests: [Request; 24],
     pub n: u32,
+    pub backlog: u32,
 }
 
 #[repr(C)]
@@ -152,13 +153,22 @@ pub struct TickResult {
     pub state: State,
 }
 
+/// `work` is 0 if the number is not.
+#[repr(C)]
+#[derive(Clone, Copy, Debug, PartialEq, Eq)]
+pub struct WaitingResult {
+    pub number: u32,
+    pub work: u32,
+}
+
 pub type SetUp = unsafe extern "C" fn(Table) -> SetUpResult;
 pub type Admit = unsafe extern "C" fn(Table) -> AdmissionResult;
 pub type Present = unsafe extern "C" fn(State, u32, u32) -> MovedResult;
 pub type Tick = unsafe extern "C" fn(State) -> TickResult;
 pub type Run = unsafe extern "C" fn(State, u32, *mut Entry, usize) -> MovedResult;
+pub type Waiting = unsafe extern "C" fn(State) -> WaitingResult;
 
-/// The library's five calls, wherever they come from.
+/// The library's six calls, wherever they come from.
 #[derive(Clone, Copy)]
 pub struct Calls {
     pub set_up: SetUp,
@@ -166,11 +176,12 @@ pub struct Calls {
     pub request: Present,
     pub tick: Tick,
     pub run: Run,
+    pub waiting: Waiting,
 }
 
 /// The exported names, in the order of `Calls`.
-pub const NAMES: [&std::ffi::CStr; 5] =
-    [c"pilqandur_set_up", c"pilqandur_admit", c"pilqandur_request", c"pilqandur_tick", c"pilqandur_run"];
+pub const NAMES: [&std::ffi::CStr; 6] =
+    [c"pilqandur_set_up", c"pilqandur_admit", c"pilqandur_request", c"pilqandur_tick", c"pilqandur_run", c"pilqandur_waiting"];
 
 #[cfg(feature = "linked")]
 extern "C" {
@@ -179,12 +190,20 @@ extern "C" {
     fn pilqandur_request(state: State, id: u32, work: u32) -> MovedResult;
     fn pilqandur_tick(state: State) -> TickResult;
     fn pilqandur_run(state: State, k: u32, entries: *mut Entry, len: usize) -> MovedResult;
+    fn pilqandur_waiting(state: State) -> WaitingResult;
 }
 
 /// The static library that this program was linked with.
 #[cfg(feature = "linked")]
 pub fn linked() -> Option<Calls> {
-    Some(Calls { set_up: pilqandur_set_up, admit: pilqandur_admit, request: pilqandur_request, tick: pilqandur_tick, run: pilqandur_run })
+    Some(Calls {
+        set_up: pilqandur_set_up,
+        admit: pilqandur_admit,
+        request: pilqandur_request,
+        tick: pilqandur_tick,
+        run: pilqandur_run,
+        waiting: pilqandur_waiting,
+    })
 }
 
 #[cfg(not(feature = "linked"))]

@@ -1,9 +1,9 @@
 //! One library call, made on both sides and compared.
 
-use second::state::QUEUE;
 use second::{Entry, Returns, Service, State, Table, Ticked};
 
 use crate::abi::{self, Calls};
+use crate::backlog::{figure, slots_used, sum};
 use crate::convert::*;
 use crate::random::Random;
 use crate::state;
@@ -22,20 +22,23 @@ pub enum Call {
         k: u32,
         lent: usize,
     },
-    /// Request, tick and run on the state with these numbers for its four flags, one of them at least neither 0 nor 1.
+    /// The ticks of work waiting.
+    Waiting,
+    /// Request, tick, run and the work waiting on the state with these numbers for its four flags, one of them at least neither 0 nor 1.
     Damaged {
         flags: [u32; 4],
     },
 }
 
 /// What the lent entries hold before a run.
-const LENT: Entry = Entry { kind: 0xeeee_eeee, id: 0xeeee_eeed, drops: 0xeeee_eeec };
+pub const LENT: Entry = Entry { kind: 0xeeee_eeee, id: 0xeeee_eeed, drops: 0xeeee_eeec };
 
 pub fn random_call(random: &mut Random) -> Call {
-    match random.below(11) {
+    match random.below(13) {
         0..=3 => Call::Tick,
         4..=6 => Call::Request { id: random.word(), work: work(random) },
         7 => Call::Damaged { flags: no_flags(random) },
+        8 | 9 => Call::Waiting,
         _ => run(random),
     }
 }
@@ -79,14 +82,24 @@ pub fn table_call(random: &mut Random) -> Call {
     }
 }
 
-/// A difference in words, or the state after the call.
+/// A difference in words, or the state after the call. The figure "equals the sum over the queue, after every call" (document 02, 8/13),
+/// whatever the two sides make of it.
 pub fn compare(calls: &Calls, state: &State, call: &Call) -> Result<State, String> {
+    let next = compare_call(calls, state, call)?;
+    if state.is_fit() {
+        same("the sum over the queue, and the figure", sum(&next), next.backlog as u64)?;
+    }
+    Ok(next)
+}
+
+fn compare_call(calls: &Calls, state: &State, call: &Call) -> Result<State, String> {
     match *call {
         Call::SetUp(table) => compare_set_up(calls, state, table),
         Call::Admit(table) => compare_admit(calls, state, table),
         Call::Request { id, work } => compare_request(calls, state, id, work),
         Call::Tick => compare_tick(calls, state),
         Call::Run { k, lent } => compare_run(calls, state, k, lent),
+        Call::Waiting => compare_waiting(calls, state),
         Call::Damaged { flags } => compare_damaged(calls, state, flags),
     }
 }
@@ -184,6 +197,16 @@ fn compare_run(calls: &Calls, before: &State, k: u32, lent: usize) -> Result<Sta
     Ok(next)
 }
 
+/// A refused call tells no work.
+fn compare_waiting(calls: &Calls, before: &State) -> Result<State, String> {
+    let second = before.work_waiting();
+    // SAFETY: structs by value, no pointer.
+    let library = unsafe { (calls.waiting)(to_state(before)) };
+    same("number", second.err().unwrap_or(0), library.number)?;
+    same("work waiting", second.unwrap_or(0), library.work)?;
+    Ok(*before)
+}
+
 /// A state whose flags are no flags: each call refuses it, hands it back as it came and leaves the lent list.
 fn compare_damaged(calls: &Calls, before: &State, flags: [u32; 4]) -> Result<State, String> {
     let mut given = to_state(before);
@@ -203,6 +226,9 @@ fn compare_damaged(calls: &Calls, before: &State, flags: [u32; 4]) -> Result<Sta
         same(&format!("{call}'s state is as it came"), true, given == state)?;
     }
     same("the lent list", [to_entry(LENT); 3], entries)?;
+    // SAFETY: structs by value, no pointer.
+    let told = unsafe { (calls.waiting)(given) };
+    same("the work waiting: number and work", (unfit, 0), (told.number, told.work))?;
     Ok(*before)
 }
 
@@ -226,6 +252,7 @@ pub fn same_state(second: &State, library: &State) -> Result<(), String> {
         same(&format!("left of row {i}"), second.left[i], library.left[i])?;
     }
     same("waiting", second.waiting, library.waiting)?;
+    same("figure of the work waiting", second.backlog, library.backlog)?;
     for i in 0..second.queue.len() {
         same(&format!("queue slot {i}"), second.queue[i], library.queue[i])?;
     }
@@ -275,9 +302,10 @@ pub fn shrink(calls: &Calls, state: &State, call: &Call) -> State {
 }
 
 const STEPS: &[fn(&mut State)] = &[
-    |s| s.waiting /= 2,
-    |s| s.waiting = s.waiting.saturating_sub(1),
-    plain_requests,
+    |s| change_queue(s, |s| s.waiting /= 2),
+    |s| change_queue(s, |s| s.waiting = s.waiting.saturating_sub(1)),
+    |s| change_queue(s, plain_requests),
+    |s| s.backlog = figure(s),
     clear_unused,
     |s| s.left = [0; 16],
     |s| s.left.iter_mut().for_each(|left| *left = (*left).min(1)),
@@ -296,6 +324,13 @@ const STEPS: &[fn(&mut State)] = &[
     first_stretch_comes_back,
     last_stretch_comes_back,
 ];
+
+/// The figure moves with the queue: a right one stays right, so that a fit state stays fit, and a wrong one stays as far off.
+fn change_queue(state: &mut State, change: impl Fn(&mut State)) {
+    let off = state.backlog.wrapping_sub(figure(state));
+    change(state);
+    state.backlog = figure(state).wrapping_add(off);
+}
 
 /// The clock and the stretches together.
 fn earlier(state: &mut State) {
@@ -330,11 +365,6 @@ fn drop_first_row(state: &mut State) {
         state.table.n -= 1;
         state.table.server.place = state.table.server.place.saturating_sub(1);
     }
-}
-
-/// How many of the queue's slots are in use: all, if more are said to wait.
-pub fn slots_used(state: &State) -> usize {
-    state.waiting.min(QUEUE as u32) as usize
 }
 
 fn plain_requests(state: &mut State) {

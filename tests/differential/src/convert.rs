@@ -31,7 +31,7 @@ pub fn to_state(state: &second::State) -> abi::State {
     abi::State {
         table: to_table(&state.table),
         progress: abi::Progress { left: state.left, server: abi::ServerState { budget: v.budget, sporadic }, clock: state.clock },
-        queue: abi::Queue { requests: state.queue.map(request), n: state.waiting },
+        queue: abi::Queue { requests: state.queue.map(request), n: state.waiting, backlog: state.backlog },
         returns: abi::Returns { stretches: state.returns.stretches.map(stretch), n: state.returns.held },
     }
 }
@@ -57,6 +57,7 @@ pub fn from_state(state: &abi::State) -> second::State {
         clock: p.clock,
         queue: state.queue.requests.map(request),
         waiting: state.queue.n,
+        backlog: state.queue.backlog,
         returns: second::Returns { stretches: state.returns.stretches.map(stretch), held: state.returns.n },
     }
 }

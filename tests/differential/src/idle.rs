@@ -37,6 +37,11 @@ pub fn given(before: &State) -> bool {
     how(before) == Some(How::Given)
 }
 
+/// Whether a request has the next tick, by the budget.
+pub fn by_budget(before: &State) -> bool {
+    how(before) == Some(How::ByBudget)
+}
+
 const GIVEN: &str = "idle tick given";
 const EMPTIES: &str = "idle tick given that leaves nobody waiting";
 const THEN: &str = "idle tick given, then one by the budget";

@@ -34,7 +34,7 @@ fn open(path: &str) -> Option<Calls> {
     if found.iter().any(|function| function.is_null()) {
         return None;
     }
-    let [set_up, admit, request, tick, run] = found;
+    let [set_up, admit, request, tick, run, waiting] = found;
     // SAFETY: these names have the types that abi.rs gives them.
     unsafe {
         Some(Calls {
@@ -43,6 +43,7 @@ fn open(path: &str) -> Option<Calls> {
             request: transmute(request),
             tick: transmute(tick),
             run: transmute(run),
+            waiting: transmute(waiting),
         })
     }
 }

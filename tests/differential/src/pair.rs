@@ -1,4 +1,4 @@
-//! Pairs of random lists of request, tick and run calls, for one table and with equally many accepted ticks; refused calls are among them.
+//! Random lists of request, tick and run calls, for one table; refused calls are among them. Pairs of them have equally many accepted ticks.
 
 use second::state::{CLOCK_LAST, QUEUE, WORK_MOST};
 use second::table::{BACKGROUND, RETURNING, ROWS};
@@ -40,22 +40,39 @@ pub struct Pair {
 }
 
 pub fn random_pair(random: &mut Random) -> Pair {
-    let table = to_table(&table(random));
-    let ticks = if random.once_in(10) { random.from(200, 400) } else { random.from(20, 200) };
-    let list = |()| if table.server.kind == RETURNING && random.once_in(3) { apart(random, ticks) } else { list(random, ticks) };
-    Pair { table, lists: [(); 2].map(list) }
+    let table = table(random);
+    let ticks = ticks(random);
+    Pair { table, lists: [(); 2].map(|()| list_for(random, &table, ticks)) }
 }
 
 /// Once in 30 a damaged table, which set-up refuses as a rule. Of the others about half have rows on both sides of the server.
-fn table(random: &mut Random) -> second::Table {
+pub fn table(random: &mut Random) -> Table {
     if random.once_in(30) {
-        return state::bad_table(random);
+        return to_table(&state::bad_table(random));
     }
     let mut table = state::table(random);
     if table.server.kind != BACKGROUND && table.n > 1 && random.once_in(2) {
         table.server.place = random.from(1, table.n - 1);
     }
-    table
+    to_table(&table)
+}
+
+/// How many ticks a list makes.
+pub fn ticks(random: &mut Random) -> u32 {
+    if random.once_in(10) {
+        random.from(200, 400)
+    } else {
+        random.from(20, 200)
+    }
+}
+
+/// A list of so many accepted ticks.
+pub fn list_for(random: &mut Random, table: &Table, ticks: u32) -> Vec<Call> {
+    if table.server.kind == RETURNING && random.once_in(3) {
+        apart(random, ticks)
+    } else {
+        list(random, ticks)
+    }
 }
 
 /// Requests of one tick that never meet: under kind 4 a stretch each.

@@ -4,6 +4,8 @@ use std::collections::BTreeMap;
 use std::fs;
 use std::time::{SystemTime, UNIX_EPOCH};
 
+use crate::abi::Table;
+
 const FOLDER: &str = "target/differential";
 
 /// How often each thing was seen.
@@ -32,6 +34,15 @@ pub fn count_and_seed(mut arguments: impl Iterator<Item = String>, count: u64) -
 
 fn clock_seed() -> u64 {
     SystemTime::now().duration_since(UNIX_EPOCH).map_or(1, |since| since.as_secs())
+}
+
+/// The parts of a table that are in use, a line each.
+pub fn describe_table(table: &Table) -> String {
+    let mut text = format!("{} rows\n{:?}\n", table.n, table.server);
+    for task in table.tasks.iter().take(table.n as usize) {
+        text += &format!("{task:?}\n");
+    }
+    text
 }
 
 /// Keeps what differs; the path that it was written to.

@@ -1,9 +1,9 @@
-//! The second implementation behind the library's interface: what the tests of calls and of pairs of lists are themselves tested with.
+//! The second implementation behind the library's interface: what the tests of calls and of lists of calls are themselves tested with.
 
 use crate::abi::*;
 use crate::convert::*;
 
-pub const CALLS: Calls = Calls { set_up, admit, request, tick, run };
+pub const CALLS: Calls = Calls { set_up, admit, request, tick, run, waiting };
 
 pub unsafe extern "C" fn set_up(table: Table) -> SetUpResult {
     let empty = State { table, ..State::default() };
@@ -66,4 +66,14 @@ pub unsafe extern "C" fn run(state: State, k: u32, entries: *mut Entry, len: usi
         *slot = to_entry(entry);
     }
     MovedResult { number, state: to_state(&next) }
+}
+
+pub unsafe extern "C" fn waiting(state: State) -> WaitingResult {
+    if !state.flags_fit() {
+        return WaitingResult { number: UNFIT, work: 0 };
+    }
+    match from_state(&state).work_waiting() {
+        Ok(work) => WaitingResult { number: 0, work },
+        Err(number) => WaitingResult { number, work: 0 },
+    }
 }

@@ -1,10 +1,11 @@
-//! Random tables and states: fit ones, fit ones at a limit's edge, and ones unfit in each way that refusal 11 lists,
-//! those of kind 4 apart.
+//! Random tables and states: fit ones, fit ones at a limit's edge, and ones unfit in each way that refusal 11 lists, those of kind 4 and
+//! those of the figure of the work waiting apart. Every other state has the figure that is right for its queue.
 
 use second::state::{CLOCK_LAST, NEXT_LAST, QUEUE, WORK_MOST};
 use second::table::{BACKGROUND, FIELD_MOST, RETURNING, ROWS};
 use second::{Request, Row, Server, Service, State, Table};
 
+use crate::backlog::{self, figure};
 use crate::plan::{self, EDGES};
 use crate::random::Random;
 use crate::returns;
@@ -108,6 +109,17 @@ pub fn broken(random: &mut Random) -> State {
     state
 }
 
+/// A state that its figure of the work waiting alone makes unfit.
+pub fn off(random: &mut Random) -> State {
+    let mut state = match random.below(4) {
+        0 => edge(random),
+        1 => State::set_up(table(random)).expect("a table within its limits"),
+        _ => fit(random),
+    };
+    backlog::spoil(random, &mut state);
+    state
+}
+
 fn fit_at(random: &mut Random, table: Table, clock: u32) -> State {
     let mut state = State::set_up(table).expect("a table within its limits");
     state.clock = clock;
@@ -157,6 +169,7 @@ fn fill_queue(random: &mut Random, state: &mut State) {
     for i in 0..QUEUE {
         state.queue[i] = if i < state.waiting as usize { waiting(random, state.clock) } else { any_request(random) };
     }
+    state.backlog = figure(state);
 }
 
 fn waiting(random: &mut Random, clock: u32) -> Request {
@@ -175,7 +188,7 @@ fn any_request(random: &mut Random) -> Request {
 pub fn edge(random: &mut Random) -> State {
     let mut state = fit(random);
     let row = random.below(state.table.n as usize);
-    match random.below(9) {
+    match random.below(10) {
         0 => state.left[row] = state.table.rows[row].exec,
         1 => grow_queue(random, &mut state, QUEUE),
         2 => one_waiting(random, &mut state).work = random.pick(&[1, WORK_MOST]),
@@ -184,9 +197,17 @@ pub fn edge(random: &mut Random) -> State {
         5 => last_clock(random, &mut state),
         6 => state.service.tr = state.clock,
         7 => state.service.begin = state.clock,
+        8 => most_work(random, &mut state),
         _ => state.service.nr = NEXT_LAST,
     }
+    state.backlog = figure(&state);
     state
+}
+
+/// No figure is larger.
+fn most_work(random: &mut Random, state: &mut State) {
+    grow_queue(random, state, QUEUE);
+    state.queue.iter_mut().for_each(|request| request.work = WORK_MOST);
 }
 
 fn whole_budget(state: &mut State) {
@@ -207,10 +228,10 @@ pub fn unfit(random: &mut Random) -> State {
     let row = random.below(state.table.n as usize);
     let past_edge =
         |random: &mut Random, edge: u32| if random.once_in(2) { edge.saturating_add(1) } else { random.from(edge, u32::MAX - 1) + 1 };
-    match random.below(10) {
+    match random.below(11) {
         0 => state.table = bad_table(random),
         1 => state.left[row] = past_edge(random, state.table.rows[row].exec),
-        2 => too_many_waiting(random, &mut state),
+        2 | 10 => too_many_waiting(random, &mut state),
         3 => one_waiting(random, &mut state).work = 0,
         4 => one_waiting(random, &mut state).work = past_edge(random, WORK_MOST),
         5 => state.service.budget = past_edge(random, state.table.server.budget),
@@ -220,6 +241,7 @@ pub fn unfit(random: &mut Random) -> State {
         8 => state.service.begin = state.clock + 1,
         _ => state.service.nr = past_edge(random, NEXT_LAST),
     }
+    state.backlog = figure(&state);
     state
 }
 

@@ -4,9 +4,10 @@
 use second::refusal::UNFIT_STATE;
 use second::table::ROWS;
 
-use crate::abi::{Calls, Entry, MovedResult, State, Table, TickResult};
+use crate::abi::{Calls, Entry, State, Table};
 use crate::convert::from_state;
 use crate::idle::given;
+use crate::made::{entry, make, must, Made};
 use crate::pair::{count, cut, Call, Pair};
 
 /// A tick as the library told of it, and the rows dropped in it.
@@ -48,18 +49,6 @@ fn dropped(table: &Table, before: &State) -> [bool; ROWS] {
     std::array::from_fn(|row| row < table.n as usize && before.progress.left[row] > 0 && at_deadline(row))
 }
 
-fn entry(tick: &TickResult) -> Entry {
-    Entry { kind: tick.kind, id: tick.id, drops: tick.drops }
-}
-
-fn must(holds: bool, words: impl FnOnce() -> String) -> Result<(), String> {
-    if holds {
-        Ok(())
-    } else {
-        Err(words())
-    }
-}
-
 /// Plays a list: each call gets the state that the last one handed back, refused or not.
 struct Player<'a> {
     calls: &'a Calls,
@@ -71,40 +60,22 @@ struct Player<'a> {
 impl Player<'_> {
     /// The call's number.
     fn call(&mut self, call: Call) -> Result<u32, String> {
-        // SAFETY: structs by value, no pointer; the list of a run is lent in `run`.
-        let (name, number, next) = match call {
-            Call::Request { id, work } => {
-                let moved = unsafe { (self.calls.request)(self.state, id, work) };
-                ("request", moved.number, moved.state)
-            }
-            Call::Tick => {
-                let before = self.state;
-                let tick = unsafe { (self.calls.tick)(before) };
-                if tick.number == 0 {
-                    self.note(&before, entry(&tick))?;
-                }
-                ("tick", tick.number, tick.state)
-            }
-            Call::Run { k, lent } => {
-                let moved = self.run(k, lent)?;
-                ("run", moved.number, moved.state)
-            }
-        };
-        self.played.endings.push((name, number));
-        self.state = next;
-        Ok(number)
+        let made = make(self.calls, &self.state, call);
+        let before = self.state;
+        match (call, made.number) {
+            (Call::Tick, 0) => self.note(&before, made.ticks[0])?,
+            (Call::Run { .. }, 0) => self.single_ticks(&made)?,
+            _ => {}
+        }
+        self.played.endings.push((made.name, made.number));
+        self.state = made.state;
+        Ok(made.number)
     }
 
     /// A run shows no state but its last: the others are those of single ticks, which must tell and end as the run does.
-    fn run(&mut self, k: u32, lent: u32) -> Result<MovedResult, String> {
-        let mut entries = vec![Entry::default(); lent as usize];
-        // SAFETY: the list is lent for the call, with its own length.
-        let moved = unsafe { (self.calls.run)(self.state, k, entries.as_mut_ptr(), entries.len()) };
-        if moved.number != 0 {
-            return Ok(moved);
-        }
+    fn single_ticks(&mut self, run: &Made) -> Result<(), String> {
         let mut single = self.state;
-        for &written in entries.iter().take(k as usize) {
+        for &written in &run.ticks {
             // SAFETY: structs by value, no pointer.
             let tick = unsafe { (self.calls.tick)(single) };
             let u = self.played.ticks.len();
@@ -113,9 +84,8 @@ impl Player<'_> {
             self.note(&single, written)?;
             single = tick.state;
         }
-        let u = self.played.ticks.len();
-        must(single == moved.state, || format!("a run of {k} ticks ends before tick {u} in another state than single ticks"))?;
-        Ok(moved)
+        let (k, u) = (run.ticks.len(), self.played.ticks.len());
+        must(single == run.state, || format!("a run of {k} ticks ends before tick {u} in another state than single ticks"))
     }
 
     /// Tick u has clock u before it, and reports as many drops as rows are dropped in it.

@@ -3,7 +3,7 @@
 use second::State;
 
 /// How calls can end with the limit and its edges waiting, and with as many as document 01 lets wait.
-pub const SHOWN_BY_CALLS: [&str; 12] = [
+pub const SHOWN_BY_CALLS: [&str; 16] = [
     "request done with 23 waiting",
     "request refused 5 with 24 waiting",
     "request refused 11 with 25 waiting",
@@ -16,6 +16,10 @@ pub const SHOWN_BY_CALLS: [&str; 12] = [
     "run done with 24 waiting",
     "run refused 11 with 25 waiting",
     "run refused 11 with 64 waiting",
+    "waiting call done with 23 waiting",
+    "waiting call done with 24 waiting",
+    "waiting call refused 11 with 25 waiting",
+    "waiting call refused 11 with 64 waiting",
 ];
 
 /// Which of these a call shows, if all but the count is fit in its state.

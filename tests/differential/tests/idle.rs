@@ -21,11 +21,11 @@ fn all_but_the_queue_as_in_an_idle_tick() {
         if !given(&before) {
             continue;
         }
-        let (mut after, mut idle) = (before, State { waiting: 0, ..before });
+        let (mut after, mut idle) = (before, State { waiting: 0, backlog: 0, ..before });
         assert_eq!(idle.tick().unwrap().entry.kind, 0);
         let entry = after.tick().unwrap().entry;
         assert_eq!((entry.kind, entry.id), (2, before.queue[0].id));
-        (idle.queue, idle.waiting) = (after.queue, after.waiting);
+        (idle.queue, idle.waiting, idle.backlog) = (after.queue, after.waiting, after.backlog);
         assert_eq!(after, idle, "{before:?}");
         seen[before.table.server.kind as usize] += 1;
     }

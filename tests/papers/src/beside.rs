@@ -64,7 +64,8 @@ fn same_tick(second: &Tick, library: &Tick) -> Result<(), String> {
 }
 
 /// The test of this test: each number of `FIELDS`, changed by one after each tick in turn, must be noticed beside the second
-/// implementation; a budget also by the paper's table alone, after every tick before the last budget that it prints.
+/// implementation; a budget also by the paper's table alone, after every tick before the last budget that it prints. A figure of the work
+/// waiting makes the state unfit, so the next tick is refused.
 pub fn check_spoils(dir: &Path, calls: Calls) -> Report {
     let mut report = Report::default();
     for table in TABLES {
@@ -99,7 +100,7 @@ impl Trial<'_> {
         let owed = if name == "budget" { tables::last_budget(self.dir, self.table.name) } else { 0 };
         let (mut beside, mut alone) = (0, 0);
         for &tick in &ticks {
-            let (by_second, by_table) = self.noticed(Spoil { field, tick });
+            let (by_second, by_table) = self.noticed(name, Spoil { field, tick });
             beside += by_second as usize;
             alone += by_table as usize;
             if !by_second || (tick < owed && !by_table) {
@@ -110,8 +111,12 @@ impl Trial<'_> {
     }
 
     /// Whether the change is noticed beside the second implementation, and whether by the table alone.
-    fn noticed(&self, spoil: Spoil) -> (bool, bool) {
-        let spoilt = by_library(&self.plan, self.calls, Idle::Withheld, Some(spoil)).expect("these changes leave a state fit");
+    fn noticed(&self, name: &str, spoil: Spoil) -> (bool, bool) {
+        let spoilt = match by_library(&self.plan, self.calls, Idle::Withheld, Some(spoil)) {
+            Ok(ticks) => ticks,
+            Err(_) if name == "backlog" => return (true, true),
+            Err(refused) => panic!("{name} changed, and the state no longer fit: {refused}"),
+        };
         let mut report = Report::default();
         tables::check(self.dir, self.table, WHO, &spoilt, &mut report);
         (first_difference(&self.right, &spoilt).is_some(), !report.faults.is_empty())

@@ -2,8 +2,8 @@
 //! `papers DIR --write`: writes the outputs anew, from the second implementation, if the checks of lines hold.
 //! `papers DIR --library LIBRARY`: document 004's tables by the library's own calls, each line against the paper and each tick
 //! against the second implementation; then the test of that. LIBRARY is `linked` (built with that feature), `second`, or a shared
-//! object's path. Further: `--spoil FIELD@TICK` changes one number (budget, tr, nr, begin, work, left) of the library's state by
-//! one after that tick, which must end in faults; `--alone` leaves the second implementation out.
+//! object's path. Further: `--spoil FIELD@TICK` changes one number (budget, tr, nr, begin, work, left, backlog) of the library's
+//! state by one after that tick, which must end in faults; `--alone` leaves the second implementation out.
 
 use std::fs;
 use std::io::Write;

@@ -31,6 +31,7 @@ impl Scheduler for State {
     }
 
     fn take_back(&mut self, tick: &Tick) {
+        self.backlog += 1;
         if tick.answer.finish.is_none() {
             self.queue[0].work += 1;
             return;
@@ -144,6 +145,7 @@ pub const FIELDS: &[(&str, Field)] = &[
     ("begin", |s| Some(&mut s.progress.server.sporadic.begin)),
     ("work", |s| s.queue.requests[..s.queue.n as usize].first_mut().map(|head| &mut head.work)),
     ("left", |s| s.progress.left.iter_mut().find(|left| **left > 0)),
+    ("backlog", |s| Some(&mut s.queue.backlog)),
 ];
 
 impl Spoil {
@@ -154,12 +156,20 @@ impl Spoil {
         Some(Spoil { field: *field, tick: tick.parse().ok()? })
     }
 
-    /// By one: down from 2 and more, else up. In the papers' tables a fit state stays fit.
+    /// By one: down from 2 and more, else up. In the papers' tables a fit state stays fit, but for the figure of the work waiting, which
+    /// moves with a request's work.
     fn change(&self, state: &mut abi::State) {
+        let before = work_waiting(state);
         if let Some(number) = (self.field)(state) {
             *number = if *number > 1 { *number - 1 } else { *number + 1 };
         }
+        state.queue.backlog = state.queue.backlog.wrapping_add(work_waiting(state)).wrapping_sub(before);
     }
+}
+
+/// The sum over the queue.
+fn work_waiting(state: &abi::State) -> u32 {
+    state.queue.requests.iter().take(state.queue.n as usize).map(|request| request.work).sum()
 }
 
 /// One tick of a replay: all that a line of a table is read from.

@@ -1,6 +1,6 @@
-//! A second implementation of document 01's tick scheduler, with requests 1/13 and 3/13 to 6/13 of document 02, written from the papers
-//! and the recorded readings, with free points set to the product's: what stays in slot 0 when the last request leaves, and how kind 4's
-//! stretches stand in the state (`returning`).
+//! A second implementation of document 01's tick scheduler, with requests 1/13, 3/13 to 6/13 and 8/13 of document 02, written from the
+//! papers and the recorded readings, with free points set to the product's: what stays in slot 0 when the last request leaves, and how kind
+//! 4's stretches stand in the state (`returning`).
 //!
 //! State is plain and mutable, every call checks what document 01 lists and then does the steps in the paper's order.
 //! It shares no code with the product and exists to be compared with it.

@@ -43,6 +43,8 @@ pub struct State {
     pub clock: u32,
     pub queue: [Request; QUEUE],
     pub waiting: u32,
+    /// The ticks of work waiting: "The state shall hold this sum" (document 02, 8/13).
+    pub backlog: u32,
     /// Belongs to kind 4 and stays unchanged under the others, whatever it holds.
     pub returns: Returns,
 }
@@ -54,7 +56,7 @@ impl State {
         // Kind 0 has B = 0, so "b = B, of kind 0 it has b = 0" is one assignment.
         let service = Service { budget: table.server.budget, ..Service::default() };
         let queue = [Request::default(); QUEUE];
-        Ok(State { table, left: [0; ROWS], service, clock: 0, queue, waiting: 0, returns: Returns::NONE })
+        Ok(State { table, left: [0; ROWS], service, clock: 0, queue, waiting: 0, backlog: 0, returns: Returns::NONE })
     }
 
     /// The requests that wait; only for a state with at most as many as the queue holds.
@@ -72,7 +74,14 @@ impl State {
     }
 
     fn queue_fits(&self) -> bool {
-        self.waiting as usize <= QUEUE && self.waiting().iter().all(|request| good_work(request.work) && request.arrival <= self.clock)
+        self.waiting as usize <= QUEUE
+            && self.waiting().iter().all(|request| good_work(request.work) && request.arrival <= self.clock)
+            && self.backlog_fits()
+    }
+
+    /// "A state whose stored figure differs from that sum is unfit" (document 02, 8/13). Any 24 numbers have a sum of 64 bits.
+    fn backlog_fits(&self) -> bool {
+        self.backlog as u64 == self.waiting().iter().map(|request| request.work as u64).sum::<u64>()
     }
 
     fn times_fit(&self) -> bool {
@@ -89,7 +98,7 @@ impl State {
         server.kind != RETURNING || self.returns.fit(self.clock, server.period, server.budget - self.service.budget)
     }
 
-    /// Presents a request at the current tick; 11, 4, 5.
+    /// Presents a request at the current tick; 11, 4, 5. "A request adds its work" (document 02, 8/13).
     pub fn request(&mut self, id: u32, work: u32) -> Result<(), u32> {
         if !self.is_fit() {
             return Err(UNFIT_STATE);
@@ -102,7 +111,17 @@ impl State {
         }
         self.queue[self.waiting as usize] = Request { id, work, arrival: self.clock };
         self.waiting += 1;
+        self.backlog += work;
         Ok(())
+    }
+
+    /// The ticks of work waiting; 11. "A new call returns the figure and it equals the sum over the queue, after every call" (document 02,
+    /// 8/13).
+    pub fn work_waiting(&self) -> Result<u32, u32> {
+        if !self.is_fit() {
+            return Err(UNFIT_STATE);
+        }
+        Ok(self.backlog)
     }
 
     /// The head leaves, the others move up; the last slot keeps what it held.

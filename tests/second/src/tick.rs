@@ -206,8 +206,10 @@ impl State {
         }
     }
 
-    /// At its last tick of work the head leaves as it stands: the slot that nobody moves into keeps what it held.
+    /// "a tick that goes to a request, under any kind, takes one off" (document 02, 8/13). At its last tick of work the head leaves as it
+    /// stands: the slot that nobody moves into keeps what it held.
     fn work_on_head(&mut self) -> Option<Finish> {
+        self.backlog -= 1;
         if self.queue[0].work > 1 {
             self.queue[0].work -= 1;
             return None;

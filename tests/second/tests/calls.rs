@@ -22,6 +22,7 @@ fn refused(mut state: State, number: u32) {
     assert_eq!([state.request(1, 0), state.request(1, 1)], [Err(number); 2]);
     assert_eq!(state.tick(), Err(number));
     assert_eq!([state.run(9, &mut entries), state.run(0, &mut [])], [Err(number); 2]);
+    assert_eq!(state.work_waiting(), Err(number));
     assert_eq!(state, before);
     assert_eq!(entries, [Entry { kind: 8, id: 8, drops: 8 }; 2]);
 }
@@ -50,8 +51,8 @@ fn unfit_in_each_way() {
         |s| s.left[1] = 2,
         |s| *s = with_waiting(25),
         |s| s.waiting = 1,
-        |s| (s.waiting, s.queue[0]) = (1, Request { id: 1, work: 60_001, arrival: 0 }),
-        |s| (s.waiting, s.queue[0]) = (1, Request { id: 1, work: 1, arrival: 1 }),
+        |s| (s.waiting, s.queue[0], s.backlog) = (1, Request { id: 1, work: 60_001, arrival: 0 }, 60_001),
+        |s| (s.waiting, s.queue[0], s.backlog) = (1, Request { id: 1, work: 1, arrival: 1 }, 1),
         |s| s.service.budget = 4,
         |s| s.clock = 4_000_000_001,
         |s| s.service.tr = 1,
@@ -112,9 +113,9 @@ fn the_queue_keeps_stale_slots() {
     assert_eq!((ids, state.waiting), (vec![2, 3, 3, 0], 2));
 }
 
-/// So many wait, and every slot holds a good request: nothing but the count can make the state unfit.
+/// So many wait, every slot holds a good request, and the figure is that of the slots in use: nothing but the count can make the state unfit.
 fn with_waiting(count: u32) -> State {
-    State { queue: [Request { id: 5, work: 1, arrival: 0 }; QUEUE], waiting: count, ..fresh() }
+    State { queue: [Request { id: 5, work: 1, arrival: 0 }; QUEUE], waiting: count, backlog: count.min(24), ..fresh() }
 }
 
 #[test]

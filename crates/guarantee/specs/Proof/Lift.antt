@@ -51,12 +51,12 @@ worked-takes t Turn.Budget q = served-takes t q
 worked-takes t Turn.Spare q = served-takes t q
 
 queued-tick : (s : State) → queued (stateAfter s) ≡ queued s - finishes (ticked s .finish)
-queued-tick s = ap length (waiting-with (s .queue) (ticked s .next .queue))
+queued-tick s = ap length (waiting-with (s .queue) (ticked s .next .queue) (ticked s .next .backlog))
     ∙ worked-takes (s .progress .clock) (turnAt (taskSetOf (s .table)) (modelOf s)) (waitingOf (s .queue))
 
 queued-request : (s : State) (id work : ℕ) → queued (written s (asked id work (modelOf s))) ≡ suc (queued s)
 queued-request s id work =
-    ap length (waiting-with (s .queue) (presented id work (s .progress .clock) (waitingOf (s .queue))))
+    ap length (waiting-with (s .queue) (presented id work (s .progress .clock) (waitingOf (s .queue))) (s .queue .backlog + work))
     ∙ length-append (waitingOf (s .queue)) (record { id = id; work = work; arrival = s .progress .clock } ∷ []) ∙ one (queued s)
   where
     one : (n : ℕ) → n + 1 ≡ suc n
@@ -131,7 +131,7 @@ behind-request s id work = record {
   table = refl;
   progress = ap (λ (ls : List ℕ). (record { left = ls; server = s .progress .server; clock = s .progress .clock }))
       (overlay-take (s .table .n) (s .progress .left));
-  queue = λ h. ap waits (waiting-with (s .queue) (presented id work (s .progress .clock) (waitingOf (s .queue)))) ∙ more (waitingOf (s .queue));
+  queue = λ h. ap waits (waiting-with (s .queue) (presented id work (s .progress .clock) (waitingOf (s .queue))) (s .queue .backlog + work)) ∙ more (waitingOf (s .queue));
   held = same-reread (s .returns);
   few = λ h. rw (le-leb _ _ h) (omega (arith, length-take (s .returns .n) (s .returns .stretches), h));
 }

@@ -121,7 +121,7 @@ module _ (p : TaskSet) (m : ℕ → Model) (N : ℕ) (run : Run p m N) (e : exac
       (sym (run-states p m N run u h))
       ∙ seat-taken (p .server .place) (p .tasks) (server (kindAt p) (p .server)) (m u .lefts) (m u .server) (run .covers u h) u
       (someOpen (items p) u (states (items p) (reads p m) u)) (bitsOf p (m u))
-      ∙ ap (λ (t : ℕ). aboveAt p (record { lefts = m u .lefts; queue = m u .queue; server = m u .server; clock = t })) (sym (run .clocks u h))
+      ∙ ap (λ (t : ℕ). aboveAt p (record { lefts = m u .lefts; queue = m u .queue; backlog = m u .backlog; server = m u .server; clock = t })) (sym (run .clocks u h))
 
   -- it serves in each free tick until its budget, z inside tick t, is gone
   spent : (n t z : ℕ) → t + n ≤ N → (0 < n → inside t ≡ z) → ((u : ℕ) → t < u → u < t + n → due u 0 P ≡ false) →

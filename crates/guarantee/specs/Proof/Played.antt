@@ -161,6 +161,6 @@ module _ (t : Table) (calls : List Call) where
           ∙ overlay-front (t .n) (tick p (m u) .next .lefts) (at u .progress .left) i
           (omega (arith, new-long u (long u (omega arith) (array-long u (omega arith))))) (omega (arith, few-tasks));
       stays = λ u h w.
-          next u h .queue (ap waits (waiting-with (at u .queue) (ticked (at u) .next .queue))
+          next u h .queue (ap waits (waiting-with (at u .queue) (ticked (at u) .next .queue) (ticked (at u) .next .backlog))
           ∙ ap (λ (x : Tick). waits (x .next .queue)) (ticked-is u (omega arith)) ∙ w);
     }

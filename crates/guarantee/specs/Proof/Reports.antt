@@ -78,7 +78,7 @@ module _ (t : Table) (calls : List Call) where
       ended : (u : ℕ) → a ≤ u → u < a + t .server .period → waits (tick p (modelOf (at u)) .next .queue) ≡ true
       ended u l q =
           ap (λ (x : Tick). waits (x .next .queue)) (sym (ticked-is t calls u (omega arith)))
-          ∙ ap waits (sym (waiting-with (at u .queue) (ticked (at u) .next .queue)))
+          ∙ ap waits (sym (waiting-with (at u .queue) (ticked (at u) .next .queue) (ticked (at u) .next .backlog)))
           ∙ waiting (waitingOf (stateAfter (at u) .queue)) (omega (arith, w .1 u l (omega arith), ap (λ (x : RanTick). x .after) (tick-is u (omega arith))))
 
       began : (u : ℕ) → a ≤ u → u < a + t .server .period → waits (waitingOf (at u .queue)) ≡ true

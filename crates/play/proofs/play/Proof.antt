@@ -1,5 +1,8 @@
 -- `play` meets its contract: what admission, set-up and the calls answer by their contracts, in one report.
+use mathlib.Core.Path.{_≡_}
+use lib.ListN.{length, length-map}
 use borrow.Author.Needs.{needs}
+use Rattle.table.specs.Limits.{maxTasks}
 use Rattle.play.specs.Numbers.{callsOf}
 use Rattle.play.proofs.Laws.{fresh-early, played}
 use Rattle.play.proofs.play.Statement.{statement}
@@ -14,12 +17,18 @@ set-up-requires c κs = search needs
 make-all-requires : tie.Need-make-all-requires
 make-all-requires c κs = fresh-early (c .before .before .before .args .table) (c .set-up .result) (c .set-up .ensures .0)
 
+waiting-requires : tie.Need-waiting-requires
+waiting-requires c κs = search needs
+
 returns : tie.Need-returns
 returns c =
-    let u = c .before .before in
-    let s = u .before .before .before .args in
-    played (s .table) (u .set-up .result) (u .set-up .ensures .0) (u .before .admit .result) (c .before .make-all .result) (callsOf (s .calls .now))
-    (u .before .admit .ensures .0) (c .before .make-all .ensures)
+    let m = c .before .before in
+    let u = m .before in
+    let a = u .before .before .before in
+    let s = a .args in
+    let z : length (s .table .tasks) ≡ maxTasks = simp length-map at (a .good .0 .1 .1 .0 .1 .0 .1) in
+    played (s .table) (u .set-up .result) (u .set-up .ensures .0) (u .before .admit .result) (m .make-all .result) (c .waiting .result) (callsOf (s .calls .now)) z
+    (u .before .admit .ensures .0) (m .make-all .ensures) (c .waiting .ensures .0)
 
 pub play-spec : {M : Type 1} → statement M
-play-spec = tie.close (tie.spec admit-requires set-up-requires make-all-requires returns)
+play-spec = tie.close (tie.spec admit-requires set-up-requires make-all-requires waiting-requires returns)

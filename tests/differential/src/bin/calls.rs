@@ -6,7 +6,8 @@ use std::process::exit;
 use std::time::Instant;
 
 use differential::abi::Calls;
-use differential::call::{compare, random_call, shrink, slots_used, table_call, Call};
+use differential::backlog::{self, slots_used};
+use differential::call::{compare, random_call, shrink, table_call, Call};
 use differential::idle;
 use differential::open::find;
 use differential::program::{all_reached, count_and_seed, write, Seen};
@@ -44,7 +45,8 @@ fn main() {
         list += 1;
     }
     println!("calls: {made} calls in {list} lists, all alike in {:.1} s", start.elapsed().as_secs_f64());
-    let words: Vec<String> = CLAUSES.map(unfit_words).into_iter().chain(idle::shown_by_calls()).collect();
+    let of_states = CLAUSES.map(unfit_words).into_iter();
+    let words: Vec<String> = of_states.chain(idle::shown_by_calls()).chain(backlog::shown_by_calls()).collect();
     let to_reach: Vec<&str> =
         SHOWN.into_iter().chain(waiting::SHOWN_BY_CALLS).chain(words.iter().map(String::as_str)).chain([OTHER_KINDS]).collect();
     if !all_reached("calls", &seen, &to_reach, count, ENOUGH) {
@@ -52,25 +54,29 @@ fn main() {
     }
 }
 
-/// One list of calls from a fresh, a fit, an edge or an unfit state, or one of kind 4 with many stretches or broken ones; each call starts
-/// where the last one ended.
+/// One list of calls from a fresh, a fit, an edge or an unfit state, one of kind 4 with many stretches or broken ones, or one with a wrong
+/// figure of the work waiting; each call starts where the last one ended.
 fn one_list(calls: &Calls, random: &mut Random, made: &mut u64, seen: &mut Seen) -> Result<(), Fault> {
-    let (mut state, length) = match random.below(12) {
+    let (mut state, length) = match random.below(13) {
         0..=3 => (State::set_up(state::table(random)).expect("a table within its limits"), 40),
         4..=6 => (state::fit(random), 6),
         7 => (state::edge(random), 4),
         8 | 9 => (state::unfit(random), 3),
         10 => (many_stretches(random), 9),
+        11 => (state::off(random), 3),
         _ => (state::broken(random), 2),
     };
     for _ in 0..length {
         let call = if random.once_in(12) { table_call(random) } else { random_call(random) };
         *made += 1;
-        note(seen, &state, &call);
+        let ending = note(seen, &state, &call);
         state = match compare(calls, &state, &call) {
             // A set-up within a list is compared and its state left aside.
             Ok(_) if matches!(call, Call::SetUp(_)) => state,
-            Ok(next) => next,
+            Ok(next) => {
+                backlog::shown(&state, &call, &ending, &next).into_iter().for_each(|what| add(seen, what));
+                next
+            }
             Err(_) => return Err(Fault { state, call }),
         };
     }
@@ -82,25 +88,29 @@ fn many_stretches(random: &mut Random) -> State {
     state::returning(random, count)
 }
 
-/// Counts how the call ends, and how with a queue at its limit; what makes its state unfit; and what its first tick shows.
-fn note(seen: &mut Seen, state: &State, call: &Call) {
-    let mut add = |what: String| *seen.entry(what).or_default() += 1;
+fn add(seen: &mut Seen, what: String) {
+    *seen.entry(what).or_default() += 1;
+}
+
+/// Counts how the call ends, and how with a queue at its limit; what makes its state unfit; and what its first tick shows. The ending.
+fn note(seen: &mut Seen, state: &State, call: &Call) -> String {
     let ending = ending(state, call);
-    waiting::shown_by_call(state, &ending).into_iter().for_each(|what| add(what.to_string()));
-    add(ending);
+    add(seen, ending.clone());
+    waiting::shown_by_call(state, &ending).into_iter().for_each(|what| add(seen, what.to_string()));
     if matches!(call, Call::SetUp(_) | Call::Admit(_) | Call::Damaged { .. }) {
-        return;
+        return ending;
     }
     if let Some(clause) = unfit_by(state) {
-        add(unfit_words(clause));
+        add(seen, unfit_words(clause));
     }
     if state.table.server.kind != RETURNING && state.returns.held > 32 && state.is_fit() {
-        add(OTHER_KINDS.to_string());
+        add(seen, OTHER_KINDS.to_string());
     }
     if matches!(call, Call::Tick | Call::Run { .. }) {
-        shown(state).into_iter().for_each(|what| add(what.to_string()));
-        idle::shown(state).into_iter().for_each(add);
+        shown(state).into_iter().for_each(|what| add(seen, what.to_string()));
+        idle::shown(state).into_iter().for_each(|what| add(seen, what));
     }
+    ending
 }
 
 fn unfit_words(clause: &str) -> String {
@@ -118,6 +128,7 @@ fn ending(state: &State, call: &Call) -> String {
         Call::Run { k, lent } => {
             (if lent == 0 { "run without a list" } else { "run" }, state.run(k, &mut vec![second::Entry::default(); lent]).err())
         }
+        Call::Waiting => ("waiting call", state.work_waiting().err()),
         Call::Damaged { .. } => ("damaged flags", Some(second::refusal::UNFIT_STATE)),
     };
     number.map_or(format!("{name} done"), |number| format!("{name} refused {number}"))
@@ -141,8 +152,8 @@ fn report(calls: &Calls, seed: u64, list: u64, fault: &Fault) {
 fn describe(state: &State) -> String {
     let (rows, waiting) = (state.table.n.min(16) as usize, slots_used(state));
     let mut text = format!(
-        "clock {}, {} rows, {} waiting\n{:?}\n{:?}\n",
-        state.clock, state.table.n, state.waiting, state.table.server, state.service
+        "clock {}, {} rows, {} waiting, their work {}\n{:?}\n{:?}\n",
+        state.clock, state.table.n, state.waiting, state.backlog, state.table.server, state.service
     );
     for i in 0..rows {
         text += &format!("{:?}, left {}\n", state.table.rows[i], state.left[i]);

@@ -10,7 +10,7 @@ use std::time::Instant;
 use differential::abi::{Calls, Table};
 use differential::open::find;
 use differential::pair::{random_pair, Pair};
-use differential::program::{all_reached, count_and_seed, write, Seen};
+use differential::program::{all_reached, count_and_seed, describe_table, write, Seen};
 use differential::random::Random;
 use differential::unnoticed::{above, compare, shrink, Played, Ticked};
 
@@ -125,10 +125,7 @@ fn report(calls: &Calls, seed: u64, index: u64, pair: &Pair) {
 
 /// The table's parts in use and both lists, a line each.
 fn describe(pair: &Pair) -> String {
-    let mut text = format!("{} rows\n{:?}\n", pair.table.n, pair.table.server);
-    for task in pair.table.tasks.iter().take(pair.table.n as usize) {
-        text += &format!("{task:?}\n");
-    }
+    let mut text = describe_table(&pair.table);
     for (i, list) in pair.lists.iter().enumerate() {
         text += &format!("list {i}:\n");
         for call in list {

@@ -12,11 +12,14 @@ use Rattle.queue.proofs.Queue.push.Tie as tie
 returns : tie.Need-returns
 returns c = rw (le-ltb (c .before .args .self .n) maxWaiting (omega arith))
 
+saturating-add-requires : tie.Need-saturating-add-requires
+saturating-add-requires c κs = search needs
+
 cast-at : tie.Need-cast-at
 cast-at c = search needs
 
-mul-t10 : tie.Need-mul-t10
-mul-t10 c = search needs
+mul-t11 : tie.Need-mul-t11
+mul-t11 c = search needs
 
 element-set-from-next : tie.Need-element-set-from-next
 element-set-from-next c = search needs
@@ -26,9 +29,10 @@ add-next c = search needs
 
 returns-2 : tie.Need-returns-2
 returns-2 c =
-    let a = c .before .args in
-    let l : length (a .self .requests) ≡ maxWaiting = simp length-map at (c .before .good .0 .1 .1 .0 .1 .0 .1) in
-    push-room (a .self .requests) (a .self .n) (a .id) (a .work) (a .arrival) (omega arith) (omega arith)
+    let s = c .before .before in
+    let a = s .args in
+    let l : length (a .self .requests) ≡ maxWaiting = simp length-map at (s .good .0 .1 .1 .0 .1 .0 .1) in
+    push-room (a .self .requests) (a .self .n) (a .self .backlog) _ (a .id) (a .work) (a .arrival) (omega arith) (omega arith) (c .saturating-add .ensures)
 
 pub push-spec : {M : Type 1} → statement M
-push-spec = tie.close (tie.spec returns cast-at mul-t10 element-set-from-next add-next returns-2)
+push-spec = tie.close (tie.spec returns saturating-add-requires cast-at mul-t11 element-set-from-next add-next returns-2)

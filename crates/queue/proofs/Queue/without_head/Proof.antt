@@ -59,16 +59,20 @@ loop-again c =
 sub-t15 : tie.Need-sub-t15 Inv-loop μ-loop
 sub-t15 c = search needs
 
+saturating-sub-requires : tie.Need-saturating-sub-requires Inv-loop μ-loop
+saturating-sub-requires c κs = search needs
+
 returns : tie.Need-returns Inv-loop μ-loop
 returns c =
-    let a = c .before .before in
+    let a = c .before .before .before in
     let s = a .before .before .before in
     let q = s .args .self in
     let l : length (q .requests) ≡ maxWaiting = simp length-map at (s .good .0 .1 .1 .0 .1 .0 .1) in
     let e : a .loop .i ≡ q .n - 1 = omega arith in
     let all = shifted-all (q .n) (q .requests) (omega arith) (omega arith) in
-    ap {B = Queue} (λ (x : List Request). record { requests = x; n = q .n - 1 }) (a .loop .inv .1 ∙ ap (λ (k : ℕ). shifted (q .requests) k) e ∙ all .0)
-    ∙ ap {B = Queue} (λ (n : ℕ). record { requests = overlay (drop 1 (take (q .n) (q .requests))) (q .requests); n = n }) (all .1)
+    ap {B = Queue} (λ (b : ℕ). record { requests = a .loop .requests; n = q .n - 1; backlog = b }) (c .saturating-sub .ensures)
+    ∙ ap {B = Queue} (λ (x : List Request). record { requests = x; n = q .n - 1; backlog = q .backlog - 1 }) (a .loop .inv .1 ∙ ap (λ (k : ℕ). shifted (q .requests) k) e ∙ all .0)
+    ∙ ap {B = Queue} (λ (n : ℕ). record { requests = overlay (drop 1 (take (q .n) (q .requests))) (q .requests); n = n; backlog = q .backlog - 1 }) (all .1)
 
 pub without-head-spec : {M : Type 1} → statement M
 without-head-spec =
@@ -88,4 +92,5 @@ without-head-spec =
     loop-less
     loop-again
     sub-t15
+    saturating-sub-requires
     returns)

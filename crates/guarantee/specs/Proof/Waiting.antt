@@ -167,5 +167,5 @@ module _ (t : Table) (calls : List Call) where
     held = played .0 .sum;
     returned = returned;
     balanced = omega (arith, played .1, ap (howMany hasRequest) (reported calls (freshState t)));
-    most = figured-most s (played .0);
+    most = omega (arith, figured-most s (played .0));
   }

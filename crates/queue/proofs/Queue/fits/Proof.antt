@@ -1,5 +1,5 @@
 -- `Queue::fits` meets its contract: the first i requests passed and their work is summed up, and one that does not decides.
-use lib.Dec.{leb}
+use lib.Dec.{leb, eqb}
 use Prim.Native.Nat.{_≤_, _-_}
 use native.Mathlib.Omega.{arith}
 use native.Mathlib.Numerals.{add-one}
@@ -12,6 +12,7 @@ use Rattle.lists.specs.Lists.{all}
 use Rattle.lists.specs.Loops.{all-step, all-fails, and-false}
 use Rattle.queue.specs.declared.Request.{Request}
 use Rattle.queue.specs.Queue.{maxWaiting, waitingWork, requestFits}
+use Rattle.queue.specs.Steps.{queueFits}
 use Rattle.queue.specs.Laws.{Fits, request-fits, most-work}
 use Rattle.queue.proofs.Laws.{work-step}
 use Rattle.queue.proofs.Queue.fits.Statement.{statement}
@@ -83,9 +84,11 @@ returns-2 c =
 returns-3 : tie.Need-returns-3 Inv-loop μ-loop
 returns-3 c =
     let a = c .before in
-    let q = a .before .before .before .args .self in
+    let s = a .before .before .before .args in
+    let q = s .self in
     let e : a .loop .i ≡ q .n = omega arith in
-    rw (le-leb (q .n) maxWaiting (omega arith), ← e, a .loop .inv .1, a .loop .inv .2)
+    let told : eqb (q .backlog) (a .loop .sum) ≡ queueFits (s .clock) q = rw (le-leb (q .n) maxWaiting (omega arith), ← e, a .loop .inv .1, a .loop .inv .2) in
+    told
 
 pub fits-spec : {M : Type 1} → statement M
 fits-spec =

@@ -1,10 +1,11 @@
-//! What the programs share: count and seed, the folder for what differs, what was seen.
+//! What the programs share: library, count and seed, the folder for what differs, what was seen.
 
 use std::collections::BTreeMap;
 use std::fs;
 use std::time::{SystemTime, UNIX_EPOCH};
 
-use crate::abi::Table;
+use crate::abi::{Calls, Table};
+use crate::open::find;
 
 const FOLDER: &str = "target/differential";
 
@@ -24,6 +25,16 @@ pub fn all_reached(program: &str, seen: &Seen, to_reach: &[&str], count: u64, en
         println!("{program}: never reached: {}", missed.join("; "));
     }
     reached
+}
+
+/// LIBRARY [COUNT] [SEED]: the library's calls, the count and the seed; the last two are printed.
+pub fn begin(program: &str, things: &str, count: u64) -> (Calls, u64, u64) {
+    let mut arguments = std::env::args().skip(1);
+    let library = arguments.next().expect("linked, second, or the path of a shared object");
+    let (count, seed) = count_and_seed(arguments, count);
+    let calls = find(&library).unwrap_or_else(|| panic!("no library {library}"));
+    println!("{program}: {count} {things}, seed {seed}");
+    (calls, count, seed)
 }
 
 /// [COUNT] [SEED]: `count` and the clock's second if not given.

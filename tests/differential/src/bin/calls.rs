@@ -9,8 +9,7 @@ use differential::abi::Calls;
 use differential::backlog::{self, slots_used};
 use differential::call::{compare, random_call, shrink, table_call, Call};
 use differential::idle;
-use differential::open::find;
-use differential::program::{all_reached, count_and_seed, write, Seen};
+use differential::program::{all_reached, begin, write, Seen};
 use differential::random::Random;
 use differential::returns::{shown, unfit_by, CLAUSES, SHOWN};
 use differential::state;
@@ -29,11 +28,7 @@ struct Fault {
 }
 
 fn main() {
-    let mut arguments = std::env::args().skip(1);
-    let library = arguments.next().expect("linked, second, or the path of a shared object");
-    let (count, seed) = count_and_seed(arguments, 200_000);
-    let calls = find(&library).unwrap_or_else(|| panic!("no library {library}"));
-    println!("calls: {count} calls, seed {seed}");
+    let (calls, count, seed) = begin("calls", "calls", 200_000);
     let start = Instant::now();
     let mut seen = Seen::new();
     let (mut made, mut list) = (0, 0);

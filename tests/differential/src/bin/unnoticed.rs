@@ -8,9 +8,8 @@ use std::process::exit;
 use std::time::Instant;
 
 use differential::abi::{Calls, Table};
-use differential::open::find;
 use differential::pair::{random_pair, Pair};
-use differential::program::{all_reached, count_and_seed, describe_table, write, Seen};
+use differential::program::{all_reached, begin, describe_table, write, Seen};
 use differential::random::Random;
 use differential::unnoticed::{above, compare, shrink, Played, Ticked};
 
@@ -54,11 +53,7 @@ const TO_REACH: &[&str] = &[
 const ENOUGH: u64 = 1_000;
 
 fn main() {
-    let mut arguments = std::env::args().skip(1);
-    let library = arguments.next().expect("linked, second, or the path of a shared object");
-    let (count, seed) = count_and_seed(arguments, 20_000);
-    let calls = find(&library).unwrap_or_else(|| panic!("no library {library}"));
-    println!("unnoticed: {count} pairs of lists, seed {seed}");
+    let (calls, count, seed) = begin("unnoticed", "pairs of lists", 20_000);
     let start = Instant::now();
     let mut seen = Seen::new();
     for index in 0..count {

@@ -10,19 +10,14 @@ use std::time::Instant;
 
 use differential::abi::Calls;
 use differential::ledger::{check, random_list, shrink, to_reach, List};
-use differential::open::find;
-use differential::program::{all_reached, count_and_seed, describe_table, write, Seen};
+use differential::program::{all_reached, begin, describe_table, write, Seen};
 use differential::random::Random;
 
 /// From so many lists on, all of `to_reach` is to be reached.
 const ENOUGH: u64 = 1_000;
 
 fn main() {
-    let mut arguments = std::env::args().skip(1);
-    let library = arguments.next().expect("linked, second, or the path of a shared object");
-    let (count, seed) = count_and_seed(arguments, 20_000);
-    let calls = find(&library).unwrap_or_else(|| panic!("no library {library}"));
-    println!("waiting: {count} lists, seed {seed}");
+    let (calls, count, seed) = begin("waiting", "lists", 20_000);
     let start = Instant::now();
     let mut seen = Seen::new();
     for index in 0..count {

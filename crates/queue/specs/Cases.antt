@@ -59,7 +59,10 @@ pub record QueueCases : Type 0 where
   pub adds : pushedQueue (filled (ask 7 2 3) 3) 4 6 5 .backlog ≡ 12
   pub full-adds-none : pushedQueue (filled (ask 7 2 3) 24) 4 6 5 .backlog ≡ 48
   pub takes-one-off : map (λ w. servedQueue (filled (ask 7 w 3) 3) .backlog) (1 ∷ 2 ∷ 5 ∷ []) ≡ 2 ∷ 5 ∷ 14 ∷ []
-  pub empty-kept : servedQueue (filled (ask 7 2 3) 0) .backlog ≡ 0
+  -- a queue that is not fit: the figure stops at the last number of 32 bits and at 0, and an empty queue that is served keeps its own
+  pub adds-up-to : pushedQueue (figured 4_294_967_290) 4 6 5 .backlog ≡ 4_294_967_295
+  pub takes-down-to : servedQueue (figured 0) .backlog ≡ 0
+  pub empty-kept : servedQueue (record { requests = three .requests; n = 0; backlog = 5 }) .backlog ≡ 5
   pub figures : map (λ b. queueFits 5 (figured b)) (0 ∷ 2 ∷ 3 ∷ 4 ∷ 12 ∷ []) ≡ false ∷ false ∷ true ∷ false ∷ false ∷ []
 
 pub queue-cases : QueueCases
@@ -92,6 +95,8 @@ queue-cases = record {
   adds = refl;
   full-adds-none = refl;
   takes-one-off = refl;
+  adds-up-to = refl;
+  takes-down-to = refl;
   empty-kept = refl;
   figures = refl;
 }

@@ -70,8 +70,8 @@ impl Queue {
         next
     }
 
-    // Step 5: the head loses one tick of work, and at zero it leaves; one tick less waits. An empty queue stays as it is, and one whose count passes
-    // its slots.
+    // Step 5: the head loses one tick of work, and at zero it leaves; one tick less waits. An empty queue stays as it is, and one whose
+    // count passes its slots.
     pub fn serve(self) -> Queue
         ensures { λ r. ⌜ r ≡ servedQueue self ⌝ }
     {

@@ -1,6 +1,6 @@
-// The calls that move a state, a request, a tick, a run of ticks, and the one that reads the work that waits. A file for each step of a tick has that step's code: `opening` has
-// steps 1 and 2, `replenishment` step 3, `choice` step 4, `work` step 5, and `decision` puts them together with step 6. `ticking` is
-// the tick of the tick call; `running` and `service` are the ticks of a run.
+// The calls that move a state, a request, a tick, a run of ticks, and the one that tells the work that waits. A file for each step of a
+// tick has that step's code: `opening` has steps 1 and 2, `replenishment` step 3, `choice` step 4, `work` step 5, and `decision` puts them
+// together with step 6. `ticking` is the tick of the tick call; `running` and `service` are the ticks of a run.
 ghost use lib.ListN.{length};
 ghost use mathlib.Core.Path.{_≡_};
 ghost use Rattle.table.specs.Refusal.{figures};

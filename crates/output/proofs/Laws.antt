@@ -7,7 +7,7 @@ use mathlib.Core.Logic.{_⊎_, inl, inr}
 use native.Mathlib.Omega.{arith}
 use lib.ListN.{length, getD, take}
 use lib.Dec.{ltb, leb}
-use borrow.Author.Tests.{ne-eqb, lt-ltb, ltb-true, ltb-false, leb-true, leb-false}
+use borrow.Author.Tests.{ne-eqb, ltb-true, ltb-false, leb-true, leb-false}
 use Rattle.lists.specs.Numbers.{lesserOf, lesser-left, lesser-right}
 use Rattle.table.specs.declared.State.{State}
 use Rattle.plan.specs.declared.Next.{Next}
@@ -17,7 +17,6 @@ use Rattle.queue.specs.declared.Request.{Request}
 use Rattle.queue.specs.Queue.{waitingOf}
 use Rattle.rules.specs.declared.Entry.{Entry}
 use Rattle.fields.specs.declared.Arrival.{Arrival}
-use Rattle.fields.specs.Text.{maxNumber}
 use Rattle.output.specs.Totals.{counted, blockTotals}
 use Rattle.output.specs.Steps.{NotDue}
 use Rattle.output.specs.Blocks.{letter, entryLine, Unfinished, Undisturbed, Free, unfinished-less, undisturbed-less}

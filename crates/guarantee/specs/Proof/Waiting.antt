@@ -1,15 +1,15 @@
 -- The work that waits, over lists of calls. A tick of any state whose figure is the sum over its queue leaves it so, and takes one off exactly
 -- where its entry says a request; so does each accepted call, and a refused one hands the state on.
-use Prim.Native.Nat.{ℕ, zero, suc, _+_, _-_, _≤_, _<_}
+use Prim.Native.Nat.{ℕ, zero, suc, _+_, _-_, _≤_}
 use native.Mathlib.Omega.{arith}
-use mathlib.Core.Path.{_≡_, refl, sym, ap, subst, _∙_}
+use mathlib.Core.Path.{_≡_, refl, sym, ap, subst}
 use mathlib.Core.Bool.{Bool, true, false, cond}
 use mathlib.Core.List.{List, [], _∷_, _++_, map}
 use lib.ListN.{length, length-take}
 use Rattle.lists.specs.Numbers.{bitOf}
 use Rattle.lists.specs.Stretch.{howMany, count-cons}
 use Rattle.queue.specs.declared.Request.{Request}
-use Rattle.queue.specs.Queue.{maxWaiting, maxBacklog, waitingWork, waitingOf, waits, requestsFit, presented}
+use Rattle.queue.specs.Queue.{maxWaiting, maxBacklog, waitingWork, waitingOf, requestsFit, presented}
 use Rattle.queue.specs.Laws.{waiting-with, presented-length, fit-later, fit-presented, presented-work, some-work, most-work}
 use Rattle.table.specs.declared.Table.{Table}
 use Rattle.table.specs.declared.State.{State}
@@ -17,15 +17,15 @@ use Rattle.table.specs.declared.Checked.{Checked}
 use Rattle.table.specs.Limits.{maxTasks}
 use Rattle.table.specs.Refusal.{passed}
 use Rattle.table.specs.Model.{taskSetOf, modelOf, written}
-use Rattle.table.specs.State.{freshState, tableCheck, fit}
+use Rattle.table.specs.State.{freshState, tableCheck}
 use Rattle.table.specs.Facts.{StateFacts, fit-facts}
 use Rattle.rules.specs.declared.Turn.{Turn}
-use Rattle.rules.specs.Tick.{workedQueue, toRequest, workedBacklog, occupantOf, turnAt}
-use Rattle.rules.specs.Calls.{requestCheck, asked, ticksCheck, ticked, stateAfter, tickBy, runCheck, entryBy, entryOf, runState, waitingCall}
+use Rattle.rules.specs.Tick.{toRequest, occupantOf, turnAt}
+use Rattle.rules.specs.Calls.{requestCheck, asked, ticksCheck, ticked, stateAfter, tickBy, runCheck, entryBy, runState, waitingCall}
 use Rattle.rules.specs.Fitness.{queue-fit, queue-shorter, backlog-fit}
 use Rattle.rules.specs.Laws.{Accepted, request-accepted, Reached, started, asks, reached-fit}
 use Rattle.rules.specs.Waiting.{request-waits}
-use Rattle.guarantee.specs.Calls.{Call, request, run, after, final, RanTick, ticks, runStarts, starts, startsAll, hasRequest, byRequest}
+use Rattle.guarantee.specs.Calls.{Call, request, run, final, runStarts, startsAll, hasRequest, byRequest}
 use Rattle.guarantee.specs.Waiting.{stateAfterAll, sumAfter, workFrom, WaitingKept}
 use Rattle.guarantee.specs.Proof.Lift.{ranAt, reported}
 
@@ -111,8 +111,8 @@ run-takes (suc k) s xs f =
     omega (arith, given-cons s (runStarts k (stateAfter s) ++ xs), run-takes k (stateAfter s) xs (tick-figured s f), tick-takes s f)
 
 -- ---- lists of calls
--- from v on, where so many ticks went to a request and so much work came: the figure stays the sum, and what it had and what came is what it
--- has and what ticks took
+-- calls lead to the state z from one whose figure was `had`; `took` of their ticks go to a request, and `came` is the work that they bring: the
+-- figure stays the sum, and what it had and what came is what it has and what ticks took
 abbrev Goes : State → ℕ → ℕ → ℕ → Type 0
 Goes z had took came = Figured z × (z .queue .backlog + took ≡ had + came)
 

@@ -7,13 +7,15 @@ use lib.Dec.{ltb}
 use lib.ListN.{length-take}
 use Rattle.lists.specs.Tests.{never}
 use Rattle.server.specs.Whole.{roomFor}
-use Rattle.queue.specs.Queue.{maxBacklog, waits, waitingOf}
+use Rattle.queue.specs.Queue.{maxBacklog, waitingWork, waits, waitingOf}
 use Rattle.queue.specs.Laws.{most-work}
 use Rattle.table.specs.declared.State.{State}
+use Rattle.table.specs.declared.Checked.{Checked}
 use Rattle.table.specs.Model.{TaskSet, Model}
 use Rattle.table.specs.State.{fit}
 use Rattle.table.specs.Facts.{StateFacts, fit-facts}
 use Rattle.rules.specs.declared.Turn.{Turn}
+use Rattle.rules.specs.Calls.{waitingCall}
 use Rattle.rules.specs.Tick.{toRequest, firstOpen, leftsAt, kindAt, aboveAt, busyAt, serverAt, turnAt}
 
 -- a tick goes to a request only where one waits
@@ -30,6 +32,10 @@ request-waits p m e =
     go false false false true some e = never refl e
     go false true false false some e = never refl e
     go false false false false some e = never refl e
+
+-- "A new call returns the figure and it equals the sum over the queue": of every fit state
+pub waiting-sum : (s : State) → fit s ≡ true → waitingCall s ≡ record { answer = Checked.Passed; work = waitingWork (waitingOf (s .queue)) }
+waiting-sum s e = rw (e, fit-facts s e .backlog)
 
 -- the figure of a fit state is at most 24 × 60,000
 pub figure-most : (s : State) → fit s ≡ true → s .queue .backlog ≤ maxBacklog

@@ -24,7 +24,7 @@ use Rattle.rules.specs.Tick.{toRequest, occupantOf, turnAt}
 use Rattle.rules.specs.Calls.{requestCheck, asked, ticksCheck, ticked, stateAfter, tickBy, runCheck, entryBy, runState, waitingCall}
 use Rattle.rules.specs.Fitness.{queue-fit, queue-shorter, backlog-fit}
 use Rattle.rules.specs.Laws.{Accepted, request-accepted, Reached, started, asks, reached-fit}
-use Rattle.rules.specs.Waiting.{request-waits}
+use Rattle.rules.specs.Waiting.{request-waits, waiting-sum}
 use Rattle.guarantee.specs.Calls.{Call, request, run, final, runStarts, startsAll, hasRequest, byRequest}
 use Rattle.guarantee.specs.Waiting.{stateAfterAll, sumAfter, workFrom, WaitingKept}
 use Rattle.guarantee.specs.Proof.Lift.{ranAt, reported}
@@ -160,7 +160,7 @@ module _ (t : Table) (calls : List Call) where
   s = stateAfterAll t calls
 
   returned : length (t .tasks) ≡ maxTasks → passed (tableCheck t) ≡ true → waitingCall s ≡ record { answer = Checked.Passed; work = sumAfter t calls }
-  returned z e = rw (reached-fit t z e s (reached t calls (freshState t) started) .0, played .0 .sum)
+  returned z e = waiting-sum s (reached-fit t z e s (reached t calls (freshState t) started) .0)
 
   pub kept : WaitingKept t calls
   kept = record {

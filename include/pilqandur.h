@@ -1,4 +1,4 @@
-/* Pilqandur: a tick scheduler and its admission bounds, as static library target/staticlib/libcapi.a (`rt staticlib capi`).
+/* Pilqandur: a tick scheduler and its admission bounds, as static library crates/capi_c/out/libcapi_c.a (`rt lib --cpu=x86-64` in crates/capi_c).
  *
  * Every function of the library is proved to give, for every value of its arguments, what document 01's rules give, with what
  * document 02's requests have changed of them: the number of the answer, the next state, the bounds, the entries of a run.
@@ -66,12 +66,12 @@ extern "C" {
  * off the machine code and measures beside it. To it come what memcpy, memmove and memset take (8 bytes were seen; where they
  * are bound at their first call, the loader takes more there, once) and, in the caller's frame, the arguments and the result
  * by value, twice with some compilers: README.md has figures with that. */
-#define PILQANDUR_STACK_SET_UP 656
-#define PILQANDUR_STACK_ADMIT 1360
-#define PILQANDUR_STACK_REQUEST 3776
-#define PILQANDUR_STACK_TICK 4848
-#define PILQANDUR_STACK_RUN 4704
-#define PILQANDUR_STACK_WAITING 2400
+#define PILQANDUR_STACK_SET_UP 400
+#define PILQANDUR_STACK_ADMIT 1584
+#define PILQANDUR_STACK_REQUEST 5248
+#define PILQANDUR_STACK_TICK 7840
+#define PILQANDUR_STACK_RUN 6864
+#define PILQANDUR_STACK_WAITING 2384
 
 /* Kinds of a server. */
 #define PILQANDUR_BACKGROUND 0u

@@ -24,7 +24,7 @@ use Rattle.bounds.specs.Least.{least}
 use Rattle.bounds.specs.Demand.{tasks_demand}
 use Rattle.bounds.specs.Terms.{demand_of}
 use Rattle.admission.specs.Jumps.{whole, Sure, TaskParts, ServerPart, ServerLead, Counted, DemandAt, OpenFrom, FirstMet}
-use Rattle.bounds.specs.Laws.{least-is, least-none, term_mono, server_mono}
+use Rattle.bounds.proofs.Laws.{least-is, least-none, term_mono, server_mono}
 use Rattle.admission.proofs.Laws.{tasks-step, demand_with, demand-without}
 use Rattle.admission.proofs.Load.{ceil_reaches, ceil-some, part_le, share_le, load_le}
 

@@ -1,4 +1,6 @@
 // Admission: the worst-case response-time bound of each task and of the server, and whether the table is admitted.
+#![tactic(auto)]
+
 ghost use Rattle.std.specs.Prelude.{◌≡◌, true, ◌+◌, ◌-◌, ◌*◌, ◌/◌, ◌≤◌, cond, ltb, leb, take};
 ghost use Rattle.lists.specs.Lists.{overlay, all};
 ghost use Rattle.lists.specs.Time.{ceil};
@@ -30,7 +32,7 @@ const NEAR: u64 = 8;
 const FAR: u64 = 2 * (PAST as u64);
 
 // floor(WHOLE / p) of each task and of the server, and what the server is sure to take beside its part, in parts of WHOLE.
-#[derive(Drop)]
+#[derive(Clone, Copy)]
 struct Parts {
     tasks: [u64; Table::MAX_TASKS as usize],
     server: u64,
@@ -38,7 +40,7 @@ struct Parts {
 }
 
 // What is demanded of a length l, and what is sure of every length x from l on: fixed + (extra + rate × x) / WHOLE.
-#[derive(Drop)]
+#[derive(Clone, Copy)]
 struct Work {
     all: u64,
     fixed: u64,

@@ -1,5 +1,5 @@
 -- The admission call: refusals 1, 2 and 3, or the bounds.
-use Rattle.std.specs.Prelude.{ℕ, true, false, List, replicate}
+use Rattle.std.specs.Prelude.{ℕ, false, List, replicate}
 use Rattle.lists.specs.Lists.{overlay}
 use Rattle.table.specs.declared.Table.{Table}
 use Rattle.table.specs.declared.Checked.{Checked}

@@ -1,5 +1,5 @@
 -- The time demand, and the bounds that it gives.
-use Rattle.std.specs.Prelude.{ℕ, suc, ◌+◌, ◌*◌, Bool, true, false, cond, ◌&&◌, List, [], ◌∷◌, take, leb, ltb}
+use Rattle.std.specs.Prelude.{ℕ, suc, ◌+◌, ◌*◌, Bool, true, cond, ◌&&◌, List, [], ◌∷◌, take, leb, ltb}
 use Rattle.lists.specs.Lists.{all}
 use Rattle.lists.specs.Time.{ceil}
 use Rattle.server.specs.declared.Server.{Server}

@@ -2,6 +2,4 @@ pub mod Least
 pub mod Demand
 pub mod Terms
 pub mod Admission
-pub mod Laws
-pub mod Bounds
 pub mod Cases

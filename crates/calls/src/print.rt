@@ -1,134 +1,124 @@
 // Answers as text on standard output. A call's answer is document 01's number of the refusal, 0 for none, with the index of a 2.
 use crate::digest::{digest, mix_all, mix_entries};
 use bounds::Admission;
-use libc::STDOUT_FILENO;
 use lists::bit;
 use queue::Finish;
 use rules::{Moved, Occupant, TickAnswer, Ticked, Waiting};
 use scheduler::Recording;
+use std::io;
 use table::{Checked, Refusal, SetUp, State};
 
-pub fn text(words: &[u8]) {
-    io::write_all(STDOUT_FILENO, words);
+pub fn text(rt: &impl Print, words: &str) -> io::Result<()> {
+    print!(rt; "{words}")
 }
 
 // A word and a number after it.
-pub fn field(word: &[u8], number: u64) {
-    io::write_all(STDOUT_FILENO, word);
-    io::print_decimal(STDOUT_FILENO, number);
+pub fn field(rt: &impl Print, word: &str, number: u64) -> io::Result<()> {
+    print!(rt; "{word}{number}")
 }
 
-fn flag(word: &[u8], b: bool) {
-    field(word, bit(b) as u64);
+fn flag(rt: &impl Print, word: &str, b: bool) -> io::Result<()> {
+    field(rt, word, bit(b) as u64)
 }
 
-fn refusal(word: &[u8], r: Refusal) {
-    field(word, r.number() as u64);
+fn refusal(rt: &impl Print, word: &str, r: Refusal) -> io::Result<()> {
+    field(rt, word, r.number() as u64)?;
     if let Refusal::BadTask(i) = r {
-        field(b" at ", i as u64);
+        field(rt, " at ", i as u64)?;
     }
+    Ok(())
 }
 
-pub fn checked(word: &[u8], c: Checked) {
+pub fn checked(rt: &impl Print, word: &str, c: Checked) -> io::Result<()> {
     match c {
-        Checked::Passed => field(word, 0),
-        Checked::Refused(r) => refusal(word, r),
+        Checked::Passed => field(rt, word, 0),
+        Checked::Refused(r) => refusal(rt, word, r),
     }
 }
 
 // The number of a state that a call hands back.
-fn handed(s: State) {
-    field(b" state ", digest(s));
+fn handed(rt: &impl Print, s: State) -> io::Result<()> {
+    field(rt, " state ", digest(s))
 }
 
-fn answered(word: &[u8], answer: Checked, after: State) {
-    checked(word, answer);
-    handed(after);
+fn answered(rt: &impl Print, word: &str, answer: Checked, after: State) -> io::Result<()> {
+    checked(rt, word, answer)?;
+    handed(rt, after)
 }
 
-pub fn fit(s: State) {
-    flag(b": fit ", s.fit());
-    handed(s);
+pub fn fit(rt: &impl Print, s: State) -> io::Result<()> {
+    flag(rt, ": fit ", s.fit())?;
+    handed(rt, s)
 }
 
-pub fn set_up(s: SetUp) {
-    let answer = s.answer;
-    answered(b"; set-up ", answer, s.state);
+pub fn set_up(rt: &impl Print, s: SetUp) -> io::Result<()> {
+    answered(rt, "; set-up ", s.answer, s.state)
 }
 
-pub fn admission(a: Admission) {
-    let answer = a.answer;
-    let bounds = a.bounds;
-    checked(b"; admission ", answer);
-    flag(b" admitted ", a.admitted);
-    field(b" server ", a.serverbound as u64);
-    field(b" bounds ", mix_all(0, bounds));
+pub fn admission(rt: &impl Print, a: Admission) -> io::Result<()> {
+    checked(rt, "; admission ", a.answer)?;
+    flag(rt, " admitted ", a.admitted)?;
+    field(rt, " server ", a.serverbound as u64)?;
+    field(rt, " bounds ", mix_all(0, a.bounds))
 }
 
-fn occupant(o: Occupant) {
+fn occupant(rt: &impl Print, o: Occupant) -> io::Result<()> {
     match o {
-        Occupant::Idle => text(b" idle"),
-        Occupant::Task(i) => field(b" row ", i as u64),
-        Occupant::Request(i) => field(b" request ", i as u64),
+        Occupant::Idle => text(rt, " idle"),
+        Occupant::Task(i) => field(rt, " row ", i as u64),
+        Occupant::Request(i) => field(rt, " request ", i as u64),
     }
 }
 
-fn finish(f: Finish) {
-    match f {
-        Finish::Nothing => text(b""),
-        Finish::Finished { id, response } => {
-            field(b" finished ", id as u64);
-            field(b" response ", response as u64);
-        }
+fn finish(rt: &impl Print, f: Finish) -> io::Result<()> {
+    if let Finish::Finished { id, response } = f {
+        field(rt, " finished ", id as u64)?;
+        field(rt, " response ", response as u64)?;
     }
+    Ok(())
 }
 
-fn ran(o: Occupant, drops: u32, f: Finish) {
-    field(b"; tick ", 0);
-    occupant(o);
-    field(b" drops ", drops as u64);
-    finish(f);
+fn ran(rt: &impl Print, o: Occupant, drops: u32, f: Finish) -> io::Result<()> {
+    field(rt, "; tick ", 0)?;
+    occupant(rt, o)?;
+    field(rt, " drops ", drops as u64)?;
+    finish(rt, f)
 }
 
-fn tick_answer(a: TickAnswer) {
+fn tick_answer(rt: &impl Print, a: TickAnswer) -> io::Result<()> {
     match a {
-        TickAnswer::Refused(r) => refusal(b"; tick ", r),
+        TickAnswer::Refused(r) => refusal(rt, "; tick ", r),
         TickAnswer::Ran {
             occupant: o,
             drops,
             finish: f,
-        } => ran(o, drops, f),
+        } => ran(rt, o, drops, f),
     }
 }
 
-pub fn ticked(t: Ticked) {
-    let answer = t.answer;
-    tick_answer(answer);
-    handed(t.state);
+pub fn ticked(rt: &impl Print, t: Ticked) -> io::Result<()> {
+    tick_answer(rt, t.answer)?;
+    handed(rt, t.state)
 }
 
-pub fn moved(word: &[u8], m: Moved) {
-    let answer = m.answer;
-    answered(word, answer, m.state);
+pub fn moved(rt: &impl Print, word: &str, m: Moved) -> io::Result<()> {
+    answered(rt, word, m.answer, m.state)
 }
 
-pub fn recording(r: Recording) {
-    let answer = r.answer;
-    let entries = r.entries;
-    answered(b"; run ", answer, r.state);
-    field(b" entries ", mix_entries(entries));
+pub fn recording(rt: &impl Print, r: Recording) -> io::Result<()> {
+    answered(rt, "; run ", r.answer, r.state)?;
+    field(rt, " entries ", mix_entries(r.entries))
 }
 
-pub fn waiting(w: Waiting) {
-    let answer = w.answer;
-    checked(b"; waiting ", answer);
-    field(b" work ", w.work as u64);
+pub fn waiting(rt: &impl Print, w: Waiting) -> io::Result<()> {
+    checked(rt, "; waiting ", w.answer)?;
+    field(rt, " work ", w.work as u64)
 }
 
 // The field that a case changes, and the value that it puts there.
-pub fn edit(letter: u8, slot: usize, value: u32) {
-    let name = [b' ', letter];
-    io::write_all(STDOUT_FILENO, &name);
-    field(b" ", slot as u64);
-    field(b" = ", value as u64);
+pub fn edit(rt: &impl Print, letter: u8, slot: usize, value: u32) -> io::Result<()> {
+    let name = letter as char;
+    print!(rt; " {name}")?;
+    field(rt, " ", slot as u64)?;
+    field(rt, " = ", value as u64)
 }

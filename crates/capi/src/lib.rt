@@ -1,5 +1,7 @@
-// The calls as C and Rust callers link them: structs by value, numbers for enums, the lent list as pointer and length. Each function hands
-// its arguments to the library's own call and turns the answer into document 01's numbers. include/pilqandur.h is the other side.
+// The calls as C and Rust callers have them: structs by value, numbers for enums. Each function hands its arguments to the library's own
+// call and turns the answer into document 01's numbers. The crate `capi_c` exports them; include/pilqandur.h is the other side.
+#![tactic(auto)]
+
 ghost use Rattle.std.specs.Prelude.{◌≡◌, length};
 ghost use Rattle.table.specs.Refusal.{value, number_of, value_of};
 ghost use Rattle.table.specs.State.{fresh_state, table_figures};
@@ -9,7 +11,7 @@ ghost use Rattle.rules.specs.Figures.{request_figures, run_figures, answer_figur
 ghost use Rattle.capi.specs.Boundary.{state_from, handed_back};
 ghost use Rattle.capi.specs.Results.{version, set_up_result, admission_result, moved_at, moved_result, lent_after, tick_at, tick_result, waiting_result, done_by, ran_by};
 
-use boundary::CState;
+pub use boundary::CState;
 use queue::Finish;
 use rules::{Entry, Moved, TickAnswer};
 use table::{Checked, Refusal, Table};
@@ -23,7 +25,7 @@ const VERSION: u32 = 5;
 
 // Of set-up.
 #[repr(C)]
-#[derive(Drop)]
+#[derive(Clone, Copy)]
 pub struct SetUpResult {
     pub number: u32,
     pub index: u32,
@@ -32,7 +34,7 @@ pub struct SetUpResult {
 
 // Of admission. admitted is 1 or 0.
 #[repr(C)]
-#[derive(Drop)]
+#[derive(Clone, Copy)]
 pub struct AdmissionResult {
     pub number: u32,
     pub index: u32,
@@ -43,7 +45,7 @@ pub struct AdmissionResult {
 
 // Of a request and of a run.
 #[repr(C)]
-#[derive(Drop)]
+#[derive(Clone, Copy)]
 pub struct MovedResult {
     pub number: u32,
     pub state: CState,
@@ -52,7 +54,7 @@ pub struct MovedResult {
 // Of a tick. kind, id and drops are the tick's record. finished is 1 where the tick finished a request: then request is its id and response
 // its response; they are 0 otherwise. Of a refused tick all but number and state is 0.
 #[repr(C)]
-#[derive(Drop)]
+#[derive(Clone, Copy)]
 pub struct TickResult {
     pub number: u32,
     pub kind: u32,
@@ -66,14 +68,14 @@ pub struct TickResult {
 
 // Of the waiting call. work: the ticks of work that wait; 0 where the call refuses.
 #[repr(C)]
-#[derive(Drop)]
+#[derive(Clone, Copy)]
 pub struct WaitingResult {
     pub number: u32,
     pub work: u32,
 }
 
 // The last three numbers of a tick.
-#[derive(Drop)]
+#[derive(Clone, Copy)]
 struct Done {
     finished: u32,
     request: u32,
@@ -192,16 +194,14 @@ fn tick_result_by(answer: TickAnswer, state: CState) -> TickResult
 // ---- the calls
 
 // The number of the header that this archive belongs to.
-#[unsafe(no_mangle)]
-pub extern "C" fn pilqandur_version() -> u32
+pub fn pilqandur_version() -> u32
     ensures { result ≡ version }
 {
     VERSION
 }
 
 // Set-up: the fresh state of a table, or refusal 1, 2 or 3.
-#[unsafe(no_mangle)]
-pub extern "C" fn pilqandur_set_up(table: Table) -> SetUpResult
+pub fn pilqandur_set_up(table: Table) -> SetUpResult
     ensures { result ≡ set_up_result (table_figures table) (fresh_state table) }
 {
     let up = table.set_up();
@@ -215,8 +215,7 @@ pub extern "C" fn pilqandur_set_up(table: Table) -> SetUpResult
 }
 
 // Admission: the bounds of a table, or refusal 1, 2 or 3.
-#[unsafe(no_mangle)]
-pub extern "C" fn pilqandur_admit(table: Table) -> AdmissionResult
+pub fn pilqandur_admit(table: Table) -> AdmissionResult
     ensures { result ≡ admission_result (table_figures table) (admission_call table) }
 {
     let a = admission::admit(table);
@@ -232,8 +231,7 @@ pub extern "C" fn pilqandur_admit(table: Table) -> AdmissionResult
 }
 
 // A request presented at the state's clock, or refusal 11, 4 or 5.
-#[unsafe(no_mangle)]
-pub extern "C" fn pilqandur_request(state: CState, id: u32, work: u32) -> MovedResult
+pub fn pilqandur_request(state: CState, id: u32, work: u32) -> MovedResult
     ensures { result ≡ moved_result state (request_figures (state_from state) work) (request_call (state_from state) id work).state }
 {
     let moved = scheduler::request(state.taken(), id, work);
@@ -241,8 +239,7 @@ pub extern "C" fn pilqandur_request(state: CState, id: u32, work: u32) -> MovedR
 }
 
 // One tick, or refusal 11 or 6.
-#[unsafe(no_mangle)]
-pub extern "C" fn pilqandur_tick(state: CState) -> TickResult
+pub fn pilqandur_tick(state: CState) -> TickResult
     ensures { result ≡ tick_result state (tick_figures (state_from state)) (tick_call (state_from state)).state }
 {
     let ticked = scheduler::tick(state.taken());
@@ -252,8 +249,7 @@ pub extern "C" fn pilqandur_tick(state: CState) -> TickResult
 }
 
 // k ticks, the record of each in the lent list, or refusal 11, 6 or 10. The list is lent on.
-#[unsafe(no_mangle)]
-pub extern "C" fn pilqandur_run(state: CState, k: u32, entries: &mut [Entry]) -> MovedResult
+pub fn pilqandur_run(state: CState, k: u32, entries: &mut [Entry]) -> MovedResult
     ensures { (result ≡ moved_result state (run_figures (state_from state) k (length entries.old)) (run_call (state_from state) k (length entries.old)).state) × (entries.new ≡ lent_after state k entries.old) }
 {
     let moved = scheduler::run(state.taken(), k, entries);
@@ -261,8 +257,7 @@ pub extern "C" fn pilqandur_run(state: CState, k: u32, entries: &mut [Entry]) ->
 }
 
 // The ticks of work that wait, as the state holds them, or refusal 11. It moves no state, so none comes back.
-#[unsafe(no_mangle)]
-pub extern "C" fn pilqandur_waiting(state: CState) -> WaitingResult
+pub fn pilqandur_waiting(state: CState) -> WaitingResult
     ensures { result ≡ waiting_result state (waiting_figures (state_from state)) (waiting_call (state_from state)).work }
 {
     let waiting = scheduler::waiting(state.taken());

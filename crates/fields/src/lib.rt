@@ -1,4 +1,6 @@
 // One line of a plan: its letter, its fields, its numbers.
+#![tactic(auto)]
+
 ghost use Rattle.std.specs.Prelude.{◌≡◌, ◌≤◌, length, drop};
 ghost use Rattle.fields.specs.Text.{read_number};
 ghost use Rattle.fields.specs.Lines.{numbers, onward, one_of, two_of, three_of, four_of, line_of, task_line, server_line, arrival_line, run_line};
@@ -7,14 +9,14 @@ use server::Server;
 use table::Task;
 
 // A field's number.
-#[derive(Drop)]
+#[derive(Clone, Copy)]
 pub enum Number {
     Is(u32),
     Wrong,
 }
 
 // One field, and where the next one starts.
-#[derive(Drop)]
+#[derive(Clone, Copy)]
 pub enum Field {
     More { value: u32, next: usize },
     Last(u32),
@@ -22,28 +24,28 @@ pub enum Field {
 }
 
 // Two numbers of a line, or fields that are not two.
-#[derive(Drop)]
+#[derive(Clone, Copy)]
 pub enum Two {
     Are(u32, u32),
     Wrong,
 }
 
 // Three of them.
-#[derive(Drop)]
+#[derive(Clone, Copy)]
 pub enum Three {
     Are(u32, u32, u32),
     Wrong,
 }
 
 // Four of them.
-#[derive(Drop)]
+#[derive(Clone, Copy)]
 pub enum Four {
     Are(u32, u32, u32, u32),
     Wrong,
 }
 
 // What an A line says: the request `id` of `work` ticks is presented before tick `tick`.
-#[derive(Drop)]
+#[derive(Clone, Copy)]
 pub struct Arrival {
     pub tick: u32,
     pub id: u32,
@@ -51,7 +53,7 @@ pub struct Arrival {
 }
 
 // A line of a plan, by its letter, or a line that is none of them.
-#[derive(Drop)]
+#[derive(Clone, Copy)]
 pub enum Line {
     T(Task),
     S(Server),

@@ -1,4 +1,6 @@
 // What `schedule` prints before the ticks, and of a refused plan, in a lent buffer.
+#![tactic(auto)]
+
 ghost use Rattle.std.specs.Prelude.{◌≡◌, ◌+◌, ◌*◌, ◌≤◌, length, take};
 ghost use Rattle.bounds.specs.Admission.{admission_call};
 ghost use Rattle.text.specs.Buffer.{Wrote, if_room};

@@ -1,4 +1,6 @@
 // The lines that `schedule` prints, by what they say.
+#![tactic(auto)]
+
 ghost use Rattle.std.specs.Prelude.{◌≡◌, ◌+◌};
 ghost use Rattle.lines.specs.Lines.{task_bound_line, server_bound_line, admitted_line, refused_line, tick_line, finish_line, totals_line, plan_refused_line};
 

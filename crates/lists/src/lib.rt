@@ -1,4 +1,6 @@
 // Lists and tests that the definitions of every layer share, and small functions that several layers use.
+#![tactic(auto)]
+
 ghost use Rattle.std.specs.Prelude.{◌+◌, ◌-◌, drop, ◌≡◌};
 ghost use Rattle.lists.specs.Numbers.{bit_of, lesser_of, capped_sum};
 ghost use Rattle.lists.specs.Search.{up_to};

@@ -5,9 +5,5 @@ pub mod Steps
 pub mod Rest
 pub mod Pieces
 pub mod Blocks
-pub mod Whole
 pub mod Printed
-pub mod PrintedLines
-pub mod ReadBack
-pub mod Padded
 pub mod Cases

@@ -1,4 +1,6 @@
 // What `schedule` prints of the ticks, piece by piece, in a lent buffer.
+#![tactic(auto)]
+
 ghost use Rattle.std.specs.Prelude.{◌≡◌, ℕ, ◌+◌, ◌*◌, ◌<◌, ◌≤◌, List, length, take};
 ghost use Rattle.text.specs.Buffer.{Wrote, if_room};
 ghost use Rattle.text.specs.Lines.{line_room};
@@ -24,7 +26,7 @@ use text::Line;
 mod counting;
 
 // The totals of ticks: how many were idle, a task's (document 02's rows) and a request's, and how many jobs they dropped.
-#[derive(Drop)]
+#[derive(Clone, Copy)]
 pub struct Totals {
     pub idle: u32,
     pub tasks: u32,
@@ -33,7 +35,7 @@ pub struct Totals {
 }
 
 // Where the printing stands: the next tick, the next A line, the state, and the totals of the ticks before.
-#[derive(Drop)]
+#[derive(Clone, Copy)]
 pub struct Place {
     pub tick: u32,
     pub next: Next,
@@ -42,7 +44,7 @@ pub struct Place {
 }
 
 // Where the printing stands after a piece, and how far the buffer is filled.
-#[derive(Drop)]
+#[derive(Clone, Copy)]
 pub struct Printed {
     pub place: Place,
     pub at: usize,

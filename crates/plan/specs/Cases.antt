@@ -1,11 +1,8 @@
 -- Plans at the edges of the rules, computed: the points that document 01 leaves to a careful reader, one theorem each.
 use Rattle.std.specs.Prelude.{ℕ, ◌≡◌, refl, List, [], ◌∷◌, replicate}
 use Rattle.table.specs.declared.Refusal.{Refusal}
-use Rattle.table.specs.declared.Task.{Task}
-use Rattle.table.specs.declared.Table.{Table}
 use Rattle.fields.specs.Padded.{leading, allowed, padded}
 use Rattle.plan.specs.declared.PlanRefusal.{PlanRefusal}
-use Rattle.plan.specs.declared.Plan.{Plan}
 use Rattle.plan.specs.Plan.{plan_of, refused_plan, accepted_plan, arrivals_from, rules}
 
 -- ---- Nothing, a lone line feed, a last line that is not closed.

@@ -1,6 +1,5 @@
 -- A plan: its lines in order, through a small state; its refusal with the line; its A lines.
-use Rattle.std.specs.Prelude.{ℕ, zero, suc, ◌+◌, Bool, true, false, cond, List, [], ◌∷◌, length, take, drop, set, replicate, ltb, leb, eqb}
-use Rattle.server.specs.declared.Server.{Server}
+use Rattle.std.specs.Prelude.{ℕ, suc, ◌+◌, cond, List, [], ◌∷◌, length, drop, set, replicate, ltb, leb, eqb}
 use Rattle.queue.specs.Queue.{work_fits}
 use Rattle.table.specs.declared.Task.{Task}
 use Rattle.table.specs.declared.Table.{Table}

@@ -1,4 +1,6 @@
 // The plan text: the order of its lines, the check of a whole plan, and the search for its A lines.
+#![tactic(auto)]
+
 ghost use Rattle.std.specs.Prelude.{◌≡◌};
 ghost use Rattle.plan.specs.Refusal.{number};
 ghost use Rattle.plan.specs.Figures.{answer_figures, plan_figures};
@@ -9,7 +11,7 @@ use server::Server;
 use table::{Checked, Refusal, Table, Task};
 
 // Why a plan is refused: its own refusals 7, 8 and 9, or one that a call has too (4, and 1 to 3 of its table).
-#[derive(Drop)]
+#[derive(Clone, Copy)]
 pub enum PlanRefusal {
     TooLong,
     BadLine,
@@ -18,14 +20,14 @@ pub enum PlanRefusal {
 }
 
 // Whether a line, or a plan, is accepted.
-#[derive(Drop)]
+#[derive(Clone, Copy)]
 pub enum Answer {
     Accepted,
     Refused(PlanRefusal),
 }
 
 // What the lines so far say. stage: 0 before S, 1 after it, 2 after R. tick: that of the last A line.
-#[derive(Drop)]
+#[derive(Clone, Copy)]
 pub struct Reading {
     pub stage: u32,
     pub table: Table,
@@ -34,7 +36,7 @@ pub struct Reading {
 }
 
 // The answer of the check: the table and the ticks of an accepted plan; of a refused one the line, 0 where it is none's.
-#[derive(Drop)]
+#[derive(Clone, Copy)]
 pub struct Plan {
     pub answer: Answer,
     pub line: u32,
@@ -43,7 +45,7 @@ pub struct Plan {
 }
 
 // An A line and where the line after it starts.
-#[derive(Drop)]
+#[derive(Clone, Copy)]
 pub enum Next {
     Found(Arrival, usize),
     Done,
@@ -56,6 +58,7 @@ pub const MAX_BYTES: usize = 65536;
 const TOO_MANY: u32 = Table::MAX_TASKS + 1;
 
 // A table with nothing in it.
+#[tactic(auto, unfolding(crate::specs::Plan::blank))]
 fn no_table() -> Table
     ensures { result ≡ blank }
 {
@@ -78,6 +81,7 @@ fn no_table() -> Table
 }
 
 // The reading before the first line.
+#[tactic(auto, unfolding(crate::specs::Plan::fresh_reading))]
 fn begin() -> Reading
     ensures { result ≡ fresh_reading }
 {
@@ -104,6 +108,7 @@ fn bad_work() -> Answer
 }
 
 // Whether a line may stand at a stage, after an A line of a tick: "line by line from 1: 8, 9, 4".
+#[tactic(auto, unfolding(crate::specs::Plan::judged))]
 fn judge(stage: u32, tick: u32, l: Line) -> Answer
     ensures { result ≡ judged stage tick l }
 {
@@ -141,6 +146,7 @@ fn judge(stage: u32, tick: u32, l: Line) -> Answer
 }
 
 // The table with one task more; a seventeenth only makes the count 17, which refusal 1 meets in its turn.
+#[tactic(auto, unfolding(crate::specs::Plan::with_task))]
 fn with_task(t: Table, x: Task) -> Table
     ensures { result ≡ with_task t x }
 {
@@ -168,6 +174,7 @@ fn with_server(t: Table, s: Server) -> Table
 }
 
 // The reading after a line that is in place.
+#[tactic(auto, unfolding(crate::specs::Plan::moved))]
 fn step(st: Reading, l: Line) -> Reading
     ensures { result ≡ moved st l }
 {
@@ -202,6 +209,7 @@ fn step(st: Reading, l: Line) -> Reading
 }
 
 // A refused plan.
+#[tactic(auto, unfolding(crate::specs::Plan::refused_plan))]
 fn refuse(k: PlanRefusal, line: u32) -> Plan
     ensures { result ≡ refused_plan k line }
 {
@@ -214,6 +222,7 @@ fn refuse(k: PlanRefusal, line: u32) -> Plan
 }
 
 // After the last line: "no R is 9 at the line after the last; then 1, 2, 3 with line 0".
+#[tactic(auto, unfolding(crate::specs::Plan::closing, crate::specs::Plan::tabled, crate::specs::Plan::accepted_plan))]
 fn finish(st: Reading, line: u32) -> Plan
     ensures { result ≡ closing st line }
 {

@@ -16,7 +16,7 @@ use Rattle.table.specs.State.{fit}
 use Rattle.table.specs.Facts.{fit-facts, table-facts}
 use Rattle.rules.specs.declared.Entry.{Entry}
 use Rattle.rules.specs.Calls.{unless, request_check, asked, clock_allows, ticked, state_after, tick_by, entry_of, run_check, run_state, run_entries, run_list}
-use Rattle.rules.specs.Laws.{tick-few}
+use Rattle.rules.proofs.Laws.{tick-few}
 use Rattle.scheduler.specs.Laws.{run_length}
 use Rattle.guarantee.specs.Calls.{Call, request, tick, run, after, final, Event, accepted, ran, tick_events, run_finishes, happens, events, finishes, ticks_from}
 use Rattle.play.specs.declared.Made.{Made}

@@ -11,7 +11,7 @@ use Rattle.table.specs.State.{fresh_state, table_check}
 use Rattle.rules.specs.declared.Waiting.{Waiting}
 use Rattle.guarantee.specs.Calls.{Call, RanTick, no_tick, ticks, clock_after}
 use Rattle.guarantee.specs.Guarantee.{Guarantee}
-use Rattle.guarantee.specs.Kept.{guarantee, waiting_kept}
+use Rattle.guarantee.proofs.Kept.{guarantee, waiting_kept}
 use Rattle.play.specs.declared.Report.{Report}
 use Rattle.play.specs.Report.{drops_of, reported}
 use Rattle.play.specs.Laws.{made-clock}

@@ -1,5 +1,7 @@
 // Where the guarantee meets the code: its theorem is about the definitions of the calls; `play` makes the calls themselves, from a table
 // on. Its contract says that it reports what the definitions say, and that a table it reports admitted keeps the guarantee.
+#![tactic(auto)]
+
 ghost use Rattle.std.specs.Prelude.{◌≤◌, ◌≡◌, cond, [], ◌∷◌, take};
 ghost use Rattle.server.specs.Consumed.{last32};
 ghost use Rattle.server.specs.Limits.{last_clock};
@@ -15,7 +17,7 @@ use scheduler::Recording;
 use table::{Checked, State, Table};
 
 // What calls leave and report: the state after them, how many ticks ran, and the sum of the drops of these ticks.
-#[derive(Drop)]
+#[derive(Clone, Copy)]
 struct Made {
     state: State,
     ticks: u32,
@@ -24,7 +26,7 @@ struct Made {
 
 // What is reported of a table and a list of calls: whether the table is admitted, what the calls leave and report, and what the waiting call
 // tells after them.
-#[derive(Drop)]
+#[derive(Clone, Copy)]
 pub struct Report {
     pub admitted: bool,
     pub ticks: u32,

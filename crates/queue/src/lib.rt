@@ -1,11 +1,13 @@
 // The queue of requests, first come first served.
+#![tactic(auto)]
+
 ghost use Rattle.std.specs.Prelude.{◌≡◌, ◌≤◌, ◌-◌, drop};
 ghost use Rattle.queue.specs.Queue.{max_waiting, fresh_queue, waiting_of, queue_with, request_fits};
 ghost use Rattle.queue.specs.Steps.{pushed_queue, served_queue, queue_fits};
 
 // Work that comes when it likes: an id, the ticks of work left, and the tick at which it was presented.
 #[repr(C)]
-#[derive(Drop)]
+#[derive(Clone, Copy)]
 pub struct Request {
     pub id: u32,
     pub work: u32,
@@ -24,7 +26,7 @@ impl Request {
 // The first n slots hold the requests that wait, the head first. backlog: the ticks of work that wait (document 02's figure), which a
 // request adds to and a served tick takes from.
 #[repr(C)]
-#[derive(Drop)]
+#[derive(Clone, Copy)]
 pub struct Queue {
     pub requests: [Request; Queue::CAPACITY as usize],
     pub n: u32,
@@ -143,7 +145,7 @@ impl Queue {
 }
 
 // What a tick finishes: nothing, or a request with its response, the ticks from its arrival to the end of the tick.
-#[derive(Drop)]
+#[derive(Clone, Copy)]
 pub enum Finish {
     Nothing,
     Finished { id: u32, response: u32 },

@@ -1,4 +1,6 @@
 // The plan reader: the A lines of a plan, one after the other.
+#![tactic(auto)]
+
 ghost use Rattle.std.specs.Prelude.{◌≡◌, ◌+◌, length};
 ghost use Rattle.plan.specs.Plan.{next_from};
 ghost use Rattle.reader.specs.Reading.{behind};
@@ -6,21 +8,21 @@ ghost use Rattle.reader.specs.Reading.{behind};
 use plan::Next;
 
 // "The plan reader keeps the lent bytes and a position."
-#[derive(Drop)]
+#[derive(Clone, Copy)]
 pub struct Reader<'a> {
     pub src: &'a [u8],
     pub at: usize,
 }
 
 // An A line, if there is one more, and the reader behind it.
-#[derive(Drop)]
+#[derive(Clone, Copy)]
 pub struct Advanced<'a> {
     pub next: Next,
     pub reader: Reader<'a>,
 }
 
 // The same with the position alone.
-#[derive(Drop)]
+#[derive(Clone, Copy)]
 struct Read {
     pub next: Next,
     pub at: usize,

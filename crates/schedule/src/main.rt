@@ -1,9 +1,20 @@
 // `schedule`: a plan on standard input, what it prints on standard output. All but the reading and the writing is the library's.
-ghost use Rattle.std.specs.Prelude.{ℕ, ◌≤◌, length};
+#![tactic(auto)]
+
+ghost use Rattle.std.specs.Prelude.{◌≡◌, ◌<◌, ◌≤◌, ◌++◌, length, take, IfOk, OnOk, IfSome};
+ghost use Rattle.std.specs.Io.KnownBytes.{Appends, Consumes, IsAtEnd};
+ghost use Rattle.bounds.specs.Admission.{admission_call};
 ghost use Rattle.heading.specs.Rooms.{head_room};
+ghost use Rattle.heading.specs.Heading.{head_text};
+ghost use Rattle.output.specs.Totals.{closing_text};
+ghost use Rattle.output.specs.Steps.{first_place};
+ghost use Rattle.output.specs.Rest.{text_from};
+ghost use Rattle.output.specs.Output.{schedule_text};
 
 use output::Totals;
 use plan::Answer;
+use std::io;
+use std::io::{Read, Write};
 use table::Table;
 
 // How many bytes are read: one more than a plan may have.
@@ -12,57 +23,93 @@ const READ_BYTES: usize = plan::MAX_BYTES + 1;
 // The buffer that is filled again and again.
 const OUT_BYTES: usize = 65536;
 
-// Writes the first n bytes of the buffer. False where the output is closed: there is nothing more to do then.
-fn write_out(out: &[u8], n: usize) -> bool
-    requires { n ≤ length out.now }
+// Fills the buffer from its start with what is read, as far as the input goes, and says how far.
+fn read_full<R: Read>(from: &mut R, buf: &mut [u8]) -> io::Result<usize>
+    ensures in_bounds { IfOk result (λ n. n ≤ length buf.new) }
+    ensures bytes { IfOk result (λ n. Consumes (R.remaining from.old) (R.remaining from.new) (take n buf.new)) }
+    ensures end { IfOk result (λ n. n < length buf.new → IsAtEnd (R.remaining from.new)) }
 {
-    io::write_all(1, &out[..n])
+    let mut done: usize = 0;
+    while done < buf.len() {
+        let n = from.read(&mut buf[done..])?;
+        if n == 0 {
+            return Ok(done);
+        }
+        done += n;
+    }
+    Ok(done)
+}
+
+// Writes the first n bytes of the buffer.
+fn write_out<W: Write>(to: &mut W, out: &[u8], n: usize) -> io::Result<()>
+    requires { n ≤ length out.now }
+    ensures { OnOk result (Appends (W.contents to.old) (W.contents to.new) (take n out.now)) }
+{
+    to.write_all(&out[..n])
 }
 
 // Prints the closing line.
-fn close(ticks: u32, totals: Totals, out: &mut [u8])
+fn close<W: Write>(to: &mut W, ticks: u32, totals: Totals, out: &mut [u8]) -> io::Result<()>
     requires { head_room ≤ length out.old }
+    ensures { OnOk result (Appends (W.contents to.old) (W.contents to.new) (closing_text ticks totals)) }
 {
     let e = output::closing(out, ticks, totals);
-    write_out(out, e);
+    write_out(to, out, e)
 }
 
 // Prints an accepted plan: the head, then the ticks, a buffer at a time, then the closing line.
-fn run(text: &[u8], table: Table, ticks: u32, out: &mut [u8])
+fn run<W: Write>(
+    to: &mut W,
+    text: &[u8],
+    table: Table,
+    ticks: u32,
+    out: &mut [u8],
+) -> io::Result<()>
     requires { head_room ≤ length out.old }
+    ensures { OnOk result (Appends (W.contents to.old) (W.contents to.new) (head_text table.n (admission_call table) ++ text_from text.now ticks (first_place text.now table))) }
 {
     let h = heading::head(out, table);
-    if !write_out(out, h) {
-        return;
-    }
+    write_out(to, out, h)?;
     let mut p = output::first(text, table);
     while p.tick < ticks {
         let r = output::fill(text, ticks, out, p);
-        if !write_out(out, r.at) {
-            return;
-        }
+        write_out(to, out, r.at)?;
         let next = r.place;
         p = next;
     }
     let totals = p.totals;
-    close(p.tick, totals, out);
+    close(to, p.tick, totals, out)
 }
 
-fn main() {
-    let mut bytes = [0u8; READ_BYTES];
-    let mut out = [0u8; OUT_BYTES];
-    let n = io::read_full(0, &mut bytes);
-    let text = &bytes[..n];
+// Prints what a plan's bytes print: the Z line of a refused plan, or the run of an accepted one.
+fn print<W: Write>(to: &mut W, text: &[u8], out: &mut [u8]) -> io::Result<()>
+    requires { head_room ≤ length out.old }
+    ensures { OnOk result (Appends (W.contents to.old) (W.contents to.new) (schedule_text text.now)) }
+{
     let r = plan::check(text);
     let answer = r.answer;
     match answer {
         Answer::Refused(k) => {
-            let end = heading::refused(&mut out, k, r.line);
-            write_out(&out, end);
+            let end = heading::refused(out, k, r.line);
+            write_out(to, out, end)
         }
         Answer::Accepted => {
             let table = r.table;
-            run(text, table, r.ticks, &mut out);
+            run(to, text, table, r.ticks, out)
         }
     }
+}
+
+// Reads a plan, as far as a plan may go and one byte more, and prints what it prints.
+fn schedule<R: Read, W: Write>(from: &mut R, to: &mut W) -> io::Result<()>
+    ensures { OnOk result (IfSome (R.remaining from.old) (λ xs. Appends (W.contents to.old) (W.contents to.new) (schedule_text xs))) }
+{
+    let mut bytes = [0u8; READ_BYTES];
+    let mut out = [0u8; OUT_BYTES];
+    let n = read_full(from, &mut bytes)?;
+    print(to, &bytes[..n], &mut out)
+}
+
+fn main(rt: HostRuntime) -> io::Result<()> {
+    schedule(&mut rt.stdin(), &mut rt.stdout())
 }

@@ -13,7 +13,7 @@ use Rattle.lists.specs.Lists.{overlay}
 use Rattle.lists.specs.Tests.{never}
 use Rattle.queue.specs.declared.Request.{Request}
 use Rattle.queue.specs.declared.Queue.{Queue}
-use Rattle.queue.specs.Queue.{waits, waiting_of, max_waiting}
+use Rattle.queue.specs.Queue.{waiting_of, max_waiting}
 use Rattle.queue.specs.Steps.{served_queue}
 use Rattle.queue.specs.Laws.{served_empties}
 use Rattle.scheduler.specs.Service.{no_request, head_work, worked, head_less, backlog_less, shown, given_after}

@@ -19,10 +19,10 @@ use Rattle.server.specs.declared.Returns.{Returns}
 use Rattle.server.specs.Returns.{max_held}
 use Rattle.server.specs.Whole.{room_for}
 use Rattle.server.specs.Advanced.{delay_by, replenished_by, advanced, moves}
-use Rattle.server.specs.Written.{Delays, delays, edge_room, replenished_is, advance_is, unmoved}
+use Rattle.server.proofs.Written.{Delays, delays, edge_room, replenished_is, advance_is, unmoved}
 use Rattle.server.specs.declared.Edge.{Edge}
 use Rattle.server.specs.Consumed.{consumed}
-use Rattle.server.specs.Within.{Timed, part-timed, consumed-is-consume}
+use Rattle.server.proofs.Within.{Timed, part-timed, consumed-is-consume}
 use Rattle.queue.specs.declared.Request.{Request}
 use Rattle.queue.specs.declared.Queue.{Queue}
 use Rattle.queue.specs.declared.Finish.{Finish}
@@ -40,8 +40,8 @@ use Rattle.rules.specs.declared.Entry.{Entry}
 use Rattle.rules.specs.declared.TickAnswer.{TickAnswer}
 use Rattle.rules.specs.Tick.{opened, any_open, first_open, choose, by_budget, to_request, worked_tasks, worked_queue, worked_backlog, occupant_of, finish_of, seen_by, turn_at, above_at, busy_at, server_at, may_at, seen_at}
 use Rattle.rules.specs.Calls.{ticked, state_after, ran_by, entry_by, entry_of}
-use Rattle.rules.specs.ServerKept.{served-eligible}
-use Rattle.rules.specs.Waiting.{request-waits}
+use Rattle.rules.proofs.ServerKept.{served-eligible}
+use Rattle.rules.proofs.WaitingLaws.{request-waits}
 use Rattle.scheduler.specs.declared.opening.Opened.{Opened}
 use Rattle.scheduler.specs.declared.work.Head.{Head}
 use Rattle.scheduler.specs.declared.replenishment.Started.{Started}

@@ -12,7 +12,7 @@ use rules::Turn;
 use table::{Progress, Table};
 
 // What a tick decides: all but the queue and kind 4's returns.
-#[derive(Drop)]
+#[derive(Clone, Copy)]
 pub struct Decision {
     pub progress: Progress,
     pub turn: Turn,

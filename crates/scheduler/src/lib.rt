@@ -1,6 +1,8 @@
 // The calls that move a state, a request, a tick, a run of ticks, and the one that tells the work that waits. A file for each step of a
 // tick has that step's code: `opening` has steps 1 and 2, `replenishment` step 3, `choice` step 4, `work` step 5, and `decision` puts them
 // together with step 6. `ticking` is the tick of the tick call; `running` and `service` are the ticks of a run.
+#![tactic(auto)]
+
 ghost use Rattle.std.specs.Prelude.{length, ◌≡◌};
 ghost use Rattle.table.specs.Refusal.{figures};
 ghost use Rattle.rules.specs.Calls.{request_call, tick_call, run_call, run_list, waiting_call};
@@ -98,7 +100,7 @@ pub fn waiting(state: State) -> Waiting
 }
 
 // A run of a block of ticks at most, whose record comes by value.
-#[derive(Drop)]
+#[derive(Clone, Copy)]
 pub struct Recording {
     pub answer: Checked,
     pub entries: [Entry; Recording::TICKS],

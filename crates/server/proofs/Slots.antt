@@ -15,7 +15,7 @@ use Rattle.server.specs.declared.Stretch.{Stretch}
 use Rattle.server.specs.declared.Returns.{Returns}
 use Rattle.server.specs.declared.Slot.{Slot}
 use Rattle.server.specs.Returns.{max_held, end_of, held_of, returns_with, comes_back, returned, goes_on, room_at, grown, held_with, held, laid, returns_fit}
-use Rattle.server.specs.Held.{returned_length}
+use Rattle.server.proofs.Held.{returned_length}
 use Rattle.server.specs.Consumed.{last32}
 use Rattle.server.specs.Advanced.{no_edge, edge_of, edge_within, held_if, slot_for, advanced}
 use Rattle.server.specs.declared.Server.{Server}

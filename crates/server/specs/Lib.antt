@@ -7,13 +7,5 @@ pub mod Returns
 pub mod Whole
 pub mod Consumed
 pub mod Advanced
-pub mod Within
-pub mod Account
-pub mod SupplyPolling
-pub mod SupplyDeferrable
-pub mod SupplySporadic
-pub mod Held
-pub mod Written
-pub mod SupplyReturning
 pub mod Cases
 pub mod ReturnsCases

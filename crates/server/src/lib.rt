@@ -1,4 +1,6 @@
 // The server: its parameters, its state, and what a tick shows it and does to it. A file for each kind has that kind's rules.
+#![tactic(auto)]
+
 ghost use Rattle.std.specs.Prelude.{◌≡◌};
 ghost use Rattle.server.specs.Kind.{kind_of};
 ghost use Rattle.server.specs.Server.{fresh_server};
@@ -14,7 +16,7 @@ mod simple_sporadic;
 // The server of a table. kind: 0 background, 1 polling, 2 deferrable, 3 simple sporadic, 4 returning (tick by tick). place (document 01's s): how many
 // tasks stand above it. period is document 01's P, budget its B.
 #[repr(C)]
-#[derive(Drop)]
+#[derive(Clone, Copy)]
 pub struct Server {
     pub kind: u32,
     pub place: u32,
@@ -24,7 +26,7 @@ pub struct Server {
 
 // What only a simple sporadic server keeps.
 #[repr(C)]
-#[derive(Drop)]
+#[derive(Clone, Copy)]
 pub struct Sporadic {
     // The last replenishment.
     pub tr: u32,
@@ -43,7 +45,7 @@ pub struct Sporadic {
 
 // What a tick changes of a server. budget is document 01's b: what is left to serve now.
 #[repr(C)]
-#[derive(Drop)]
+#[derive(Clone, Copy)]
 pub struct ServerState {
     pub budget: u32,
     pub sporadic: Sporadic,
@@ -51,7 +53,7 @@ pub struct ServerState {
 
 // An unbroken stretch of ticks that a server of kind 4 served.
 #[repr(C)]
-#[derive(Drop)]
+#[derive(Clone, Copy)]
 pub struct Stretch {
     pub start: u32,
     pub length: u32,
@@ -59,7 +61,7 @@ pub struct Stretch {
 
 // What only a server of kind 4 keeps, beside its budget: the first n slots hold the stretches that have not come back, oldest first.
 #[repr(C)]
-#[derive(Drop)]
+#[derive(Clone, Copy)]
 pub struct Returns {
     pub stretches: [Stretch; Returns::CAPACITY as usize],
     pub n: u32,
@@ -67,7 +69,7 @@ pub struct Returns {
 
 // All that a tick reads of the returns: whether a held tick comes back at step 3, whether a served tick can be held after it, and
 // whether served ticks are held at all, as under kind 4 alone.
-#[derive(Drop)]
+#[derive(Clone, Copy)]
 pub struct Edge {
     pub back: bool,
     pub room: bool,
@@ -75,7 +77,7 @@ pub struct Edge {
 }
 
 // Where a server of kind 4 holds a tick: a slot, the stretch that it then has, and how many are held.
-#[derive(Drop)]
+#[derive(Clone, Copy)]
 pub struct Slot {
     pub at: usize,
     pub stretch: Stretch,
@@ -84,7 +86,7 @@ pub struct Slot {
 
 // What a tick shows the server at step 5: its number, whether a task above the server is open in it, whether any task is,
 // whether the server serves it by its budget, whether a request waited at step 4, and whether none waits after the tick's work.
-#[derive(Drop)]
+#[derive(Clone, Copy)]
 pub struct Seen {
     pub t: u32,
     pub above: bool,

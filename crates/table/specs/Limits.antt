@@ -1,5 +1,5 @@
 -- The limits of a table: refusals 1, 2 and 3, over the tasks in use.
-use Rattle.std.specs.Prelude.{ℕ, zero, suc, Bool, true, false, cond, ◌&&◌, List, [], ◌∷◌, length, leb, ltb, eqb}
+use Rattle.std.specs.Prelude.{ℕ, suc, Bool, cond, ◌&&◌, List, [], ◌∷◌, length, leb, ltb, eqb}
 use Rattle.lists.specs.Tests.{between, every}
 use Rattle.server.specs.Limits.{max_time}
 use Rattle.server.specs.declared.Server.{Server}

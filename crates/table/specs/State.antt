@@ -1,5 +1,5 @@
 -- The fresh state, the fit state (refusal 11) and set-up.
-use Rattle.std.specs.Prelude.{ℕ, Bool, true, false, not, ◌&&◌, length, replicate, leb, ltb}
+use Rattle.std.specs.Prelude.{ℕ, Bool, not, ◌&&◌, length, replicate, leb, ltb}
 use Rattle.lists.specs.Lists.{all_with}
 use Rattle.lists.specs.Tests.{between}
 use Rattle.server.specs.Limits.{last_clock, last_nr}

@@ -1,4 +1,6 @@
 // The table of tasks with its server, its limits, and the state that the calls move.
+#![tactic(auto)]
+
 ghost use Rattle.std.specs.Prelude.{◌≡◌, ◌≤◌, take, true};
 ghost use Rattle.lists.specs.Lists.{all_with};
 ghost use Rattle.lists.specs.Tests.{every};
@@ -13,7 +15,7 @@ use server::{Returns, Server, ServerState};
 
 // A periodic task (document 01's row): phase f, period p, execution e, deadline D, in ticks.
 #[repr(C)]
-#[derive(Drop)]
+#[derive(Clone, Copy)]
 pub struct Task {
     pub phase: u32,
     pub period: u32,
@@ -33,7 +35,7 @@ impl Task {
 
 // The first n tasks are in use, highest priority first.
 #[repr(C)]
-#[derive(Drop)]
+#[derive(Clone, Copy)]
 pub struct Table {
     pub tasks: [Task; Table::MAX_TASKS as usize],
     pub n: u32,
@@ -42,7 +44,7 @@ pub struct Table {
 
 // What every tick changes: the execution left of each task's job, the server's state and the clock.
 #[repr(C)]
-#[derive(Drop)]
+#[derive(Clone, Copy)]
 pub struct Progress {
     pub left: [u32; Table::MAX_TASKS as usize],
     pub server: ServerState,
@@ -52,7 +54,7 @@ pub struct Progress {
 // The state is split by what changes: the table never, the progress in every tick, the queue when a request comes or is served, the
 // returns under kind 4 alone.
 #[repr(C)]
-#[derive(Drop)]
+#[derive(Clone, Copy)]
 pub struct State {
     pub table: Table,
     pub progress: Progress,
@@ -61,7 +63,7 @@ pub struct State {
 }
 
 // Why a call refuses, by document 01's words.
-#[derive(Drop)]
+#[derive(Clone, Copy)]
 pub enum Refusal {
     TaskCount,
     // The first task that breaks its limits.
@@ -93,14 +95,14 @@ impl Refusal {
 }
 
 // The answer of a call that only passes or refuses.
-#[derive(Drop)]
+#[derive(Clone, Copy)]
 pub enum Checked {
     Passed,
     Refused(Refusal),
 }
 
 // The answer of set-up: a refused table's state is unfit, so that every later call on it refuses.
-#[derive(Drop)]
+#[derive(Clone, Copy)]
 pub struct SetUp {
     pub answer: Checked,
     pub state: State,

@@ -1,4 +1,6 @@
 // Numbers and lines as bytes in a lent buffer.
+#![tactic(auto)]
+
 ghost use Rattle.std.specs.Prelude.{◌≡◌, List, [], ◌∷◌, ℕ, ◌+◌, ◌<◌, ◌≤◌, length};
 ghost use Rattle.text.specs.Decimal.{max_digits, width_of, decimal};
 ghost use Rattle.text.specs.Buffer.{Wrote, if_room};
@@ -8,7 +10,7 @@ ghost use Rattle.text.specs.Lines.{part_room, line_room, part_bytes, line_bytes}
 pub const MAX_DIGITS: usize = 10;
 
 // One part of a line, after its comma.
-#[derive(Drop)]
+#[derive(Clone, Copy)]
 pub enum Part {
     Number(u32),
     Letter(u8),
@@ -16,7 +18,7 @@ pub enum Part {
 }
 
 // A line: a letter and up to five parts.
-#[derive(Drop)]
+#[derive(Clone, Copy)]
 pub struct Line {
     pub letter: u8,
     pub first: Part,

@@ -1,0 +1,15 @@
+-- The lines of the ticks so far stand in the buffer.
+use Rattle.std.proofs.Common.{◌+◌, ◌-◌, ◌*◌, ◌≡◌, ◌≤◌, length, take}
+use Rattle.scheduler.specs.Parts.{block_ticks}
+use Rattle.text.specs.Buffer.{Wrote}
+use Rattle.text.specs.Lines.{line_room}
+use Rattle.output.specs.Blocks.{block_text}
+use Rattle.output.proofs.block_lines.Given as goal
+
+abbrev pub invariant-loop-i : goal.invariant-loop-i
+invariant-loop-i l =
+    (l.i ≤ l.k) × (l.end ≤ l.at + l.i * line_room) × (length l.entries ≡ block_ticks) × (length l.out ≡ length l.initial.out)
+    × (Wrote l.initial.out l.at (block_text l.t (take l.i l.entries)) l.out l.end)
+
+abbrev pub decreases-loop-i : goal.decreases-loop-i
+decreases-loop-i l = l.k - l.i

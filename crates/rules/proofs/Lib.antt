@@ -1,0 +1,6 @@
+pub mod Figures
+pub mod Fitness
+pub mod Idle
+pub mod Laws
+pub mod ServerKept
+pub mod WaitingLaws

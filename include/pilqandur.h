@@ -1,4 +1,4 @@
-/* Pilqandur: a tick scheduler and its admission bounds, as static library crates/capi_c/out/libcapi_c.a (`rt lib --cpu=x86-64` in crates/capi_c).
+/* Pilqandur: a tick scheduler and its admission bounds, as static library target/staticlib/libcapi.a (tools/archive).
  *
  * Every function of the library is proved to give, for every value of its arguments, what document 01's rules give, with what
  * document 02's requests have changed of them: the number of the answer, the next state, the bounds, the entries of a run.

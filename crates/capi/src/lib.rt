@@ -193,7 +193,7 @@ fn tick_result_by(answer: TickAnswer, state: CState) -> TickResult
 
 // ---- the calls
 
-// The number of the header that this archive belongs to.
+// The number of the header that the archive belongs to.
 pub fn pilqandur_version() -> u32
     ensures { result ≡ version }
 {

@@ -1,5 +1,5 @@
 -- The theorems: an admitted table keeps the guarantee, whatever the calls are (demand 3), and tasks above the server do not notice requests
--- (request 2/13), and the figure of the work that waits is the sum over the queue (request 8/13). What their proofs stand on is in Proof.
+-- (request 2/13), and the figure of the work that waits is the sum over the queue (request 8/13). What their proofs stand on is beside this file.
 use Rattle.std.specs.Prelude.{ℕ, ◌≤◌, ◌<◌, ◌≡◌, true, List, length}
 use Rattle.std.proofs.Common.{arith, sym, ap, ◌∙◌, length-take}
 use Rattle.server.specs.Kind.{kind_of}

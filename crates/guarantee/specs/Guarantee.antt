@@ -1,4 +1,4 @@
--- Demand 3: what an admitted table keeps, whatever the calls are. That it does is the theorem `guarantee` in Kept.
+-- Demand 3: what an admitted table keeps, whatever the calls are. That it does is the theorem `guarantee` in proofs/Kept.
 use Rattle.std.specs.Prelude.{ℕ, ◌+◌, ◌≤◌, ◌<◌, ◌≡◌, Bool, true, false, ◌&&◌, List, ltb, length, get_or}
 use Rattle.lists.specs.Time.{due}
 use Rattle.lists.specs.Stretch.{stretch, how_many, tally}

@@ -1,5 +1,5 @@
 -- Request 2/13: "Rows above the server don't notice requests." What two lists of calls from the fresh state of one table, with equally many
--- accepted ticks, have in common, whatever their requests are. That they have it is the theorem `unnoticed` in Kept.
+-- accepted ticks, have in common, whatever their requests are. That they have it is the theorem `unnoticed` in proofs/Kept.
 use Rattle.std.specs.Prelude.{ℕ, ◌+◌, ◌<◌, ◌≡◌, Bool, cond, List, [], ◌∷◌, length, get_or}
 use Rattle.lists.specs.Stretch.{tally}
 use Rattle.table.specs.declared.Table.{Table}

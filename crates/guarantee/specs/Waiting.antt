@@ -1,5 +1,5 @@
 -- Request 8/13: "The work that waits, kept as a figure." What holds of the figure after every list of calls from the fresh state of a table,
--- refused calls included. That it does is the theorem `Waiting-kept` in Kept.
+-- refused calls included. That it does is the theorem `waiting_kept` in proofs/Kept.
 use Rattle.std.specs.Prelude.{ℕ, ◌+◌, ◌≤◌, ◌≡◌, true, cond, List, [], ◌∷◌, length}
 use Rattle.lists.specs.Stretch.{how_many}
 use Rattle.queue.specs.Queue.{max_backlog, waiting_work, waiting_of}

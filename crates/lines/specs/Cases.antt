@@ -1,5 +1,5 @@
 -- Lines of document 01's listing, and the others, computed.
-use Rattle.std.specs.Prelude.{ℕ, ◌≡◌, refl, true, false, List, [], ◌∷◌}
+use Rattle.std.specs.Prelude.{◌≡◌, refl, true, false, [], ◌∷◌}
 use Rattle.text.specs.Cases.{rules}
 use Rattle.text.specs.Lines.{line_bytes}
 use Rattle.lines.specs.Lines.{task_bound_line, server_bound_line, admitted_line, refused_line, tick_line, finish_line, totals_line, plan_refused_line}

@@ -1,6 +1,6 @@
 -- Ticks that are run at once, of which none finishes a request and before whose last no A line is due: their X lines, from their
 -- record, are all that they print.
-use Rattle.std.specs.Prelude.{ℕ, zero, suc, ◌+◌, ◌*◌, ◌≤◌, ◌<◌, ◌≡◌, refl, true, cond, List, [], ◌∷◌, length, take, eqb}
+use Rattle.std.specs.Prelude.{ℕ, zero, suc, ◌+◌, ◌*◌, ◌≤◌, ◌<◌, ◌≡◌, refl, true, List, [], ◌∷◌, length, take}
 use Rattle.std.proofs.Common.{arith, add-one, sym, ap, subst, ◌∙◌, append-nil}
 use Rattle.std.proofs.lemmas.Bool.{lt-leb}
 use Rattle.lists.specs.Lists.{take_overlay}
@@ -22,9 +22,7 @@ use Rattle.rules.specs.Laws.{Sized}
 use Rattle.scheduler.specs.declared.Recording.{Recording}
 use Rattle.scheduler.specs.Parts.{block_ticks, may_run, allowance, idle_entries, block_call}
 use Rattle.scheduler.specs.Laws.{starts, one, onwards, may-fit, run_length}
-use Rattle.text.specs.declared.Line.{Line}
 use Rattle.text.specs.Lines.{line_room, line_bytes}
-use Rattle.lines.specs.Lines.{tick_line}
 use Rattle.text.specs.Buffer.{Wrote, wrote-same}
 use Rattle.plan.specs.declared.Next.{Next}
 use Rattle.output.specs.declared.Place.{Place}

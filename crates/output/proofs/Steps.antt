@@ -1,21 +1,15 @@
 -- The printing, step by step: where it stands after some steps, and what they print.
 use Prim.Native.Nat.{ℕ, zero, suc, ◌+◌, ◌≤◌, ◌<◌}
 use native.Mathlib.Omega.{arith}
-use Rattle.std.specs.Prelude.{◌≡◌, Bool, true, false, cond, length, eqb, leb}
+use Rattle.std.specs.Prelude.{◌≡◌, Bool, true, false, eqb, leb}
 use Rattle.std.proofs.Math.Path.{refl, ap}
 use Rattle.std.proofs.Common.{sym, subst, ◌∙◌, eq-eqb, ne_eqb, eqb-true, le-leb, leb-true, leb-false}
-use mathlib.Core.List.{List, [], ◌++◌, append-nil, append_assoc}
+use mathlib.Core.List.{List, append-nil, append_assoc}
 use Rattle.std.proofs.lemmas.Bool.{eqb-false, lt-leb}
-use Rattle.table.specs.declared.Table.{Table}
-use Rattle.table.specs.State.{set_up_call}
-use Rattle.rules.specs.Calls.{tick_call}
-use Rattle.text.specs.Buffer.{Wrote, then, nothing_written, wrote_length}
+use Rattle.text.specs.Buffer.{then, nothing_written, wrote_length}
 use Rattle.fields.specs.declared.Arrival.{Arrival}
 use Rattle.plan.specs.declared.Next.{Next}
-use Rattle.plan.specs.Plan.{next_from}
 use Rattle.output.specs.declared.Place.{Place}
-use Rattle.output.specs.Totals.{no_totals, answered}
-use Rattle.output.specs.Output.{answer_text, tick_text, arrival_call}
 use Rattle.output.specs.Steps.{NotDue, Step, Stepped, Taken, and_then, no_step, presented, step_by, step_from, steps_from, tick_run}
 
 -- ---- which step a place has

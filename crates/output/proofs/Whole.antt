@@ -1,4 +1,4 @@
--- What the functions of `heading` and of this crate write into the buffers that they are lent is, in order, scheduleText: the Z line of a
+-- What the functions of `heading` and of this crate write into the buffers that they are lent is, in order, schedule_text: the Z line of a
 -- refused plan; the head of an accepted one, then its filled buffers and the closing line. (That `schedule` hands these bytes to its writer is
 -- proved there; that standard output passes them on is tested.)
 use Rattle.std.specs.Prelude.{ℕ, ◌-◌, ◌≡◌, ◌<◌, ◌≤◌, refl, length, take}

@@ -1,17 +1,9 @@
--- The pieces of the output, in order, are the whole.
-use Prim.Native.Nat.{ℕ, zero, suc, ◌+◌, ◌-◌, ◌≤◌, ◌<◌}
-use Rattle.std.specs.Prelude.{◌≡◌, refl, List, [], ◌∷◌, ◌++◌, ◌⊎◌, length, take}
-use Rattle.std.proofs.Common.{sym, ◌∙◌, append-nil, ⊎_elim}
-use Rattle.std.proofs.Math.Path.{ap}
-use native.Mathlib.Omega.{arith}
-use Rattle.text.specs.Buffer.{Wrote, if_room, has_room, front, wrote_length}
-use Rattle.text.specs.Lines.{line_room}
+-- A buffer of the output, filled.
+use Prim.Native.Nat.{ℕ, ◌+◌, ◌≤◌, ◌<◌}
+use Rattle.std.specs.Prelude.{List, ◌⊎◌, length}
 use Rattle.output.specs.Rooms.{step_room}
 use Rattle.output.specs.declared.Place.{Place}
-use Rattle.output.specs.Totals.{closing_text}
-use Rattle.output.specs.Output.{ticks_text}
 use Rattle.output.specs.Steps.{steps_from, Taken}
-use Rattle.output.specs.Rest.{text_from}
 
 -- A filled buffer. How many steps one call takes is left free, and nothing else: they are taken from p on, into the buffer from its start,
 -- and lead to q; they stop where no tick is left or a further step might not fit; and if a step fits at all, there is one.

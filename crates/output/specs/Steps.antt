@@ -1,15 +1,11 @@
 -- The printing, step by step: where it stands after some steps, and what they print.
 use Prim.Native.Nat.{ℕ, zero, suc, ◌+◌, ◌≤◌, ◌<◌}
-use native.Mathlib.Omega.{arith}
-use Rattle.std.specs.Prelude.{◌≡◌, Bool, true, false, cond, length, eqb, leb}
-use Rattle.std.proofs.Math.Path.{refl, ap}
-use Rattle.std.proofs.Common.{sym, subst, ◌∙◌, eq-eqb, ne_eqb, eqb-true, le-leb, leb-true, leb-false}
-use mathlib.Core.List.{List, [], ◌++◌, append-nil, append_assoc}
-use Rattle.std.proofs.lemmas.Bool.{eqb-false, lt-leb}
+use Rattle.std.specs.Prelude.{◌≡◌, cond, length, eqb, leb}
+use mathlib.Core.List.{List, [], ◌++◌}
 use Rattle.table.specs.declared.Table.{Table}
 use Rattle.table.specs.State.{set_up_call}
 use Rattle.rules.specs.Calls.{tick_call}
-use Rattle.text.specs.Buffer.{Wrote, then, nothing_written, wrote_length}
+use Rattle.text.specs.Buffer.{Wrote}
 use Rattle.fields.specs.declared.Arrival.{Arrival}
 use Rattle.plan.specs.declared.Next.{Next}
 use Rattle.plan.specs.Plan.{next_from}

@@ -14,7 +14,7 @@ no_totals = record { idle = 0; tasks = 0; requests = 0; drops = 0 }
 
 -- 02: "Each of the last four equals the count (for drops, the sum) over the X lines": with a tick more, by its record, "occupant kind
 -- (0 idle, 1 row, 2 request) .. and the drops". A sum that 32 bits do not hold stands at their last number; the totals of an accepted plan
--- stay far below it (ReadBack.antt).
+-- stay far below it (proofs/ReadBack.antt).
 abbrev pub counted : Totals → Entry → Totals
 counted t e = record {
   idle = capped_sum t.idle (bit_of (eqb e.kind 0));

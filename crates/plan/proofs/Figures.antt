@@ -1,6 +1,4 @@
--- The answer to a plan in document 01's figures: its number, 0 where it is accepted, the value that comes with it, and its line. "A plan: 7
--- (line 0), then line by line from 1: 8, 9, 4; an unclosed last line is 8; a seventeenth T is left to 1; no R is 9 at the line after the
--- last; then 1, 2, 3 with line 0."
+-- The answer to a plan says the figures of specs/Figures, each refusal in its order.
 use Rattle.std.specs.Prelude.{ℕ, suc, ◌≡◌, refl, Bool, true, false, cond, not, List, [], ◌∷◌, length, ltb, leb, eqb}
 use Rattle.std.proofs.Common.{ap, ◌∙◌}
 use Rattle.lists.specs.Tests.{above}
@@ -17,7 +15,6 @@ use Rattle.plan.specs.declared.PlanRefusal.{PlanRefusal}
 use Rattle.plan.specs.declared.Answer.{Answer}
 use Rattle.plan.specs.declared.Reading.{Reading}
 use Rattle.plan.specs.declared.Plan.{Plan}
-use Rattle.plan.specs.Refusal.{number_of, value_of}
 use Rattle.plan.specs.Plan.{fresh_reading, misplaced, bad_work, judged, moved, refused_plan, accepted_plan, tabled, closing, ending, or_else, reads, max_bytes, plan_of}
 use Rattle.plan.specs.Figures.{PlanFigures, answer_figures, closing_figures, ending_figures, line_number, lines_figures, number_at, plan_figures}
 

@@ -1,24 +1,16 @@
 -- The answer to a plan in document 01's figures: its number, 0 where it is accepted, the value that comes with it, and its line. "A plan: 7
 -- (line 0), then line by line from 1: 8, 9, 4; an unclosed last line is 8; a seventeenth T is left to 1; no R is 9 at the line after the
 -- last; then 1, 2, 3 with line 0."
-use Rattle.std.specs.Prelude.{ℕ, suc, ◌≡◌, refl, Bool, true, false, cond, not, List, [], ◌∷◌, length, ltb, leb, eqb}
-use Rattle.std.proofs.Common.{ap, ◌∙◌}
-use Rattle.lists.specs.Tests.{above}
+use Rattle.std.specs.Prelude.{ℕ, suc, cond, List, [], ◌∷◌, length, ltb, eqb}
 use Rattle.queue.specs.Queue.{work_fits}
-use Rattle.table.specs.declared.Checked.{Checked}
-use Rattle.table.specs.declared.Table.{Table}
-use Rattle.table.specs.Refusal.{Figures, figures}
-use Rattle.table.specs.State.{table_check, table_figures}
-use Rattle.table.specs.Facts.{check_figures}
+use Rattle.table.specs.State.{table_figures}
 use Rattle.fields.specs.declared.Line.{Line}
 use Rattle.fields.specs.Text.{Pieces, end, piece, split}
 use Rattle.fields.specs.Lines.{line_of}
-use Rattle.plan.specs.declared.PlanRefusal.{PlanRefusal}
-use Rattle.plan.specs.declared.Answer.{Answer}
 use Rattle.plan.specs.declared.Reading.{Reading}
 use Rattle.plan.specs.declared.Plan.{Plan}
 use Rattle.plan.specs.Refusal.{number_of, value_of}
-use Rattle.plan.specs.Plan.{fresh_reading, misplaced, bad_work, judged, moved, refused_plan, accepted_plan, tabled, closing, ending, or_else, reads, max_bytes, plan_of}
+use Rattle.plan.specs.Plan.{fresh_reading, moved, max_bytes}
 
 pub record PlanFigures : Type 0 where
   pub number : ℕ

@@ -60,7 +60,7 @@ pub fn following<'a>(r: Reader<'a>) -> Advanced<'a>
     }
 }
 
-// The next A line of a plan from a position on: what a reader there reads. Its parameters are plain, so its callers' proofs need no walk.
+// The next A line of a plan from a position on: what a reader there reads. Its parameters are plain, so a caller holds no reader.
 pub fn next_arrival(plan: &[u8], from: usize) -> Next
     ensures { result ≡ next_from plan.now from }
 {

@@ -1,24 +1,18 @@
--- The calls' answers in document 01's figures. "If an answer is an enum, a definition gives this paper's number and values for every case of
--- the enum, and the promises use that definition." The answer of a request and of a run is a `Checked`: table/specs/Refusal gives its
--- figures. A tick's answer has its own here, its occupant's by `entry_by` and its finished request's by `finish_figures`.
+-- The calls' answers say the figures of specs/Figures, each refusal in its order.
 use Rattle.std.specs.Prelude.{ℕ, ◌+◌, ◌≡◌, refl, Bool, true, false, cond, not, leb, ltb}
 use Rattle.std.proofs.Common.{sym, ap, ◌∙◌}
 use Rattle.lists.specs.Tests.{at_least, above}
 use Rattle.server.specs.Limits.{last_clock}
-use Rattle.queue.specs.declared.Finish.{Finish}
-use Rattle.queue.specs.Queue.{max_waiting, work_fits, FinishFigures, finish_figures}
+use Rattle.queue.specs.Queue.{max_waiting, work_fits}
 use Rattle.table.specs.declared.State.{State}
 use Rattle.table.specs.declared.Refusal.{Refusal}
 use Rattle.table.specs.declared.Checked.{Checked}
-use Rattle.table.specs.Refusal.{number, value, Figures, figures, ground_with, ground, no_ground}
+use Rattle.table.specs.Refusal.{number, value, figures, ground_with, ground, no_ground}
 use Rattle.table.specs.State.{fit}
-use Rattle.rules.specs.declared.TickAnswer.{TickAnswer}
-use Rattle.rules.specs.declared.Entry.{Entry}
 use Rattle.rules.specs.declared.Moved.{Moved}
 use Rattle.rules.specs.declared.Ticked.{Ticked}
 use Rattle.rules.specs.declared.Waiting.{Waiting}
-use Rattle.rules.specs.Tick.{Tick}
-use Rattle.rules.specs.Calls.{unless, request_check, request_call, clock_allows, ticked, tick_by, tick_call, entry_by, entry_of, run_check, waiting_check, waiting_call}
+use Rattle.rules.specs.Calls.{unless, request_check, request_call, clock_allows, ticked, tick_by, tick_call, run_check, waiting_check, waiting_call}
 use Rattle.rules.specs.Figures.{answer_figures, clock_passed, ran_figures, refused_figures, request_figures, run_figures, tick_figures, waiting_figures}
 
 -- ---- the calls' answers say these figures

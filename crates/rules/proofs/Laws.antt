@@ -1,8 +1,8 @@
 -- What the calls keep: a model written over a state reads back, a fit state's accepted calls leave it fit, and so every state
 -- that calls reach from the fresh one of a table that passes is fit.
-use Rattle.std.specs.Prelude.{ℕ, zero, suc, ◌+◌, ◌-◌, ◌≤◌, ◌<◌, ◌≡◌, refl, Bool, true, false, cond, List, [], ◌∷◌, length, take, replicate, leb, ltb}
+use Rattle.std.specs.Prelude.{ℕ, zero, suc, ◌+◌, ◌≤◌, ◌<◌, ◌≡◌, refl, Bool, true, false, cond, List, [], ◌∷◌, length, take, replicate, leb, ltb}
 use Rattle.std.proofs.Common.{arith, ap, sym, subst, ◌∙◌, length-take, length-append, length-set, length-take-le, leb-true, le-leb, ltb-true}
-use Rattle.lists.specs.Lists.{count, zip_with, all, all_with, overlay, overlay_length, take_overlay, zip_length}
+use Rattle.lists.specs.Lists.{count, zip_with, all, all_with, overlay_length, take_overlay, zip_length}
 use Rattle.lists.specs.Tests.{never, and_join, either}
 use Rattle.server.specs.Limits.{last_clock}
 use Rattle.server.specs.declared.Server.{Server}

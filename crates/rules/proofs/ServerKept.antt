@@ -13,7 +13,7 @@ use Rattle.server.specs.Whole.{Whole, whole, replenish_whole, eligible_whole, co
 use Rattle.server.proofs.Written.{few-reread, same-reread}
 use Rattle.server.proofs.Held.{HoldsFor, Holding, fits_holding, holding_fits, whole-replenish, whole-consume, returned_length, grown_length}
 use Rattle.server.specs.declared.Seen.{Seen}
-use Rattle.server.proofs.Within.{Within}
+use Rattle.server.specs.Within.{Within}
 use Rattle.queue.specs.Queue.{waits}
 use Rattle.table.specs.Model.{TaskSet, Model}
 use Rattle.rules.specs.declared.Turn.{Turn}

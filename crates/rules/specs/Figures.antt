@@ -1,24 +1,17 @@
 -- The calls' answers in document 01's figures. "If an answer is an enum, a definition gives this paper's number and values for every case of
 -- the enum, and the promises use that definition." The answer of a request and of a run is a `Checked`: table/specs/Refusal gives its
 -- figures. A tick's answer has its own here, its occupant's by `entry_by` and its finished request's by `finish_figures`.
-use Rattle.std.specs.Prelude.{ℕ, ◌+◌, ◌≡◌, refl, Bool, true, false, cond, not, leb, ltb}
-use Rattle.std.proofs.Common.{sym, ap, ◌∙◌}
-use Rattle.lists.specs.Tests.{at_least, above}
+use Rattle.std.specs.Prelude.{ℕ, ◌+◌, Bool, cond, not, leb, ltb}
 use Rattle.server.specs.Limits.{last_clock}
 use Rattle.queue.specs.declared.Finish.{Finish}
 use Rattle.queue.specs.Queue.{max_waiting, work_fits, FinishFigures, finish_figures}
 use Rattle.table.specs.declared.State.{State}
-use Rattle.table.specs.declared.Refusal.{Refusal}
-use Rattle.table.specs.declared.Checked.{Checked}
-use Rattle.table.specs.Refusal.{number, value, Figures, figures, ground_with, ground, no_ground}
+use Rattle.table.specs.Refusal.{number, Figures, ground, no_ground}
 use Rattle.table.specs.State.{fit}
 use Rattle.rules.specs.declared.TickAnswer.{TickAnswer}
 use Rattle.rules.specs.declared.Entry.{Entry}
-use Rattle.rules.specs.declared.Moved.{Moved}
-use Rattle.rules.specs.declared.Ticked.{Ticked}
-use Rattle.rules.specs.declared.Waiting.{Waiting}
 use Rattle.rules.specs.Tick.{Tick}
-use Rattle.rules.specs.Calls.{unless, request_check, request_call, clock_allows, ticked, tick_by, tick_call, entry_by, entry_of, run_check, waiting_check, waiting_call}
+use Rattle.rules.specs.Calls.{ticked, entry_by, entry_of}
 
 -- ---- what each call says, by the state and what is asked
 -- "request 11, 4, 5": 11 if the state is unfit; else 4 if the work is 0 or above 60,000; else 5 if the queue is full; else 0

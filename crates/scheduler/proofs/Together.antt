@@ -22,7 +22,8 @@ use Rattle.server.specs.Advanced.{delay_by, replenished_by, advanced, moves}
 use Rattle.server.proofs.Written.{Delays, delays, edge_room, replenished_is, advance_is, unmoved}
 use Rattle.server.specs.declared.Edge.{Edge}
 use Rattle.server.specs.Consumed.{consumed}
-use Rattle.server.proofs.Within.{Timed, part-timed, consumed-is-consume}
+use Rattle.server.specs.Within.{Timed}
+use Rattle.server.proofs.Within.{part-timed, consumed-is-consume}
 use Rattle.queue.specs.declared.Request.{Request}
 use Rattle.queue.specs.declared.Queue.{Queue}
 use Rattle.queue.specs.declared.Finish.{Finish}

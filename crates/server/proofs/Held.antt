@@ -11,7 +11,8 @@ use Rattle.server.specs.Kind.{Kind, background, polling, deferrable, sporadic, r
 use Rattle.server.specs.Returns.{max_held, end_of, held, comes_back, shorter, returned, returned_budget, goes_on, room_at, grown, laid}
 use Rattle.server.specs.Whole.{Whole, whole, fresh_whole, replenish_whole, eligible_whole, consume_whole}
 use Rattle.server.specs.declared.Returns.{Returns}
-use Rattle.server.proofs.Within.{Within, replenish-within, consume-within}
+use Rattle.server.specs.Within.{Within}
+use Rattle.server.proofs.Within.{replenish-within, consume-within}
 use Rattle.server.specs.Returns.{held_of, returns_fit}
 
 -- none empty, in order, apart, from `lo` on and before `end`

@@ -1,4 +1,4 @@
--- The limits of refusal 11 on a server's state as facts: the steps keep them, and within them step 5 of 32 bits is the rule's step.
+-- The limits of refusal 11 on a server's state, as the facts of specs/Within: the steps keep them, and within them step 5 of 32 bits is the rule's step.
 use Rattle.std.specs.Prelude.{ℕ, ◌+◌, ◌≤◌, ◌≡◌, Bool, not, ◌&&◌, ◌||◌, eqb}
 use Rattle.std.proofs.Common.{arith, le-leb}
 use Rattle.lists.specs.Tests.{either}
@@ -13,17 +13,7 @@ use Rattle.server.specs.Sporadic.{refills, effective, fixed, first_served, marke
 use Rattle.server.specs.Server.{replenish, consume}
 use Rattle.server.specs.Whole.{Whole, replenish_part}
 use Rattle.server.specs.Consumed.{last32, consumed}
-
--- no "tr or begin after the clock, or nr above 4,000,060,000"
-pub record Timed (clock : ℕ) (x : Sporadic) : Type 0 where
-  pub tr : x.tr ≤ clock
-  pub begin : x.begin ≤ clock
-  pub nr : x.nr ≤ last_nr
-
--- and no "b above B"
-pub record Within (s : Server) (clock : ℕ) (x : ServerState) : Type 0 where
-  pub budget : x.budget ≤ s.budget
-  pub times : Timed clock x.sporadic
+use Rattle.server.specs.Within.{Timed, Within}
 
 -- a later clock
 pub within-later : (s : Server) (clock : ℕ) (x : ServerState) → Within s clock x → Within s (clock + 1) x

@@ -6,6 +6,7 @@ pub mod Server
 pub mod Returns
 pub mod Whole
 pub mod Consumed
+pub mod Within
 pub mod Advanced
 pub mod Cases
 pub mod ReturnsCases

@@ -8,7 +8,7 @@ use Rattle.server.specs.Limits.{max_time, last_clock, last_nr}
 use Rattle.server.specs.declared.Server.{Server}
 use Rattle.server.specs.declared.ServerState.{ServerState}
 use Rattle.server.specs.Kind.{kind_of}
-use Rattle.server.proofs.Within.{Within}
+use Rattle.server.specs.Within.{Within}
 use Rattle.queue.specs.Queue.{max_waiting, waiting_work, waiting_of, requests_fit}
 use Rattle.queue.specs.Steps.{backlog_fits}
 use Rattle.table.specs.declared.Task.{Task}

@@ -1,12 +1,12 @@
 -- What is written of a number reads back as the number: its digits say it, there are 1 to max_digits of them, and the first is `0` only
 -- where it stands alone.
 use Prim.Native.Nat.{ℕ, zero, suc, ◌+◌, ◌-◌, ◌*◌, ◌/◌, ◌%◌, ◌^◌, ◌≤◌, ◌<◌}
-use Rattle.std.specs.Prelude.{◌≡◌, Bool, true, false, cond, List, [], ◌∷◌, ltb, leb}
+use Rattle.std.specs.Prelude.{◌≡◌, Bool, true, false, cond, ltb}
 use Rattle.std.proofs.Math.Path.{refl, ap}
 use Rattle.std.proofs.Common.{sym, ◌∙◌, subst, arith, pow-suc, div-one, div-add-mod', mod-eq_of_lt, le-div_iff_mul-le, div-lt_iff_lt-mul, ltb-true, ltb-false, le-leb}
 use Rattle.std.proofs.Math.Nat.{pow-zero, div-div-eq-div-mul, div-eq_of_lt}
 use Rattle.std.proofs.Math.ListN.{length, get_or}
-use Rattle.text.specs.Decimal.{max_digits, width_from, width_of, digits_of, decimal, is_digit, digits, value_from}
+use Rattle.text.specs.Decimal.{max_digits, width_from, width_of, digits_of, decimal, digits, value_from}
 
 pub ten_pos : (k : ℕ) → 0 < 10 ^ k
 ten_pos zero = omega arith

@@ -2,7 +2,7 @@
  *
  * Every function of the library is proved to give, for every value of its arguments, what document 01's rules give, with what
  * document 02's requests have changed of them: the number of the answer, the next state, the bounds, the entries of a run.
- * (docs/MANUAL.md: the rules in plain words, and what to do about each number; crates/capi: the contracts; crates/rules/specs:
+ * (docs/MANUAL.md: the rules in plain words, and what to do about each number; crates/capi_c: the contracts; crates/rules/specs:
  * the rules.)
  *
  * What the caller has to see to:

@@ -2,13 +2,14 @@
 // Prints each name on a line of its own, then what `schedule` prints of the plan.
 #![tactic(auto)]
 
-ghost use Rattle.std.specs.Prelude.{ℕ, ◌<◌, ◌≤◌, length, take, slice_range, IfOk, OnOk};
-ghost use Rattle.std.specs.Io.KnownBytes.{Appends, Consumes, IsAtEnd};
+ghost use Rattle.std.specs.Prelude.{ℕ, ◌<◌, ◌≤◌, length, take, slice_range, IfOk, OnOk, OnErr};
+ghost use Rattle.std.specs.Io.{WritesAtMost};
+ghost use Rattle.std.specs.Io.KnownBytes.{Appends, Consumes, IsAtEnd, WriteAppends};
 ghost use Rattle.heading.specs.Rooms.{head_room};
 
 use plan::Answer;
 use std::io;
-use std::io::{Read, Write};
+use std::io::{ErrorKind, Read, Write};
 use table::Table;
 
 // The buffers for the cases and for what one of them prints.
@@ -20,10 +21,12 @@ const OUT_BYTES: usize = 65536;
 const LONG_BYTES: usize = plan::MAX_BYTES + 1;
 
 // Fills the buffer from its start with what is read, as far as the input goes, and says how far.
+// An error leaves at the start of the buffer what was read before it; of the buffer's other bytes nothing more is known.
 fn read_full<R: Read>(from: &mut R, buf: &mut [u8]) -> io::Result<usize>
     ensures in_bounds { IfOk result (λ n. n ≤ length buf.new) }
     ensures bytes { IfOk result (λ n. Consumes (R.remaining from.old) (R.remaining from.new) (take n buf.new)) }
     ensures end { IfOk result (λ n. n < length buf.new → IsAtEnd (R.remaining from.new)) }
+    ensures err { OnErr result ((n : ℕ) × (n ≤ length buf.new) × Consumes (R.remaining from.old) (R.remaining from.new) (take n buf.new)) }
 {
     let mut done: usize = 0;
     while done < buf.len() {
@@ -36,12 +39,43 @@ fn read_full<R: Read>(from: &mut R, buf: &mut [u8]) -> io::Result<usize>
     Ok(done)
 }
 
-// Writes the bytes of s from `from` up to `to`.
+// One write, tried again where a signal interrupts it, as std's `write_all` does. A failed one wrote nothing.
+fn write_some<W: Write>(w: &mut W, bytes: &[u8]) -> io::Result<usize>
+    ensures bound { WritesAtMost result bytes.now }
+    ensures bytes { WriteAppends (W.contents w.old) (W.contents w.new) result bytes.now }
+{
+    'tries: for _ in 0..u64::MAX {
+        match w.write(bytes) {
+            Ok(n) => return Ok(n),
+            Err(e) => {
+                if e.kind() != ErrorKind::Interrupted {
+                    return Err(e);
+                }
+            }
+        }
+    }
+    Err(io::Error::new(
+        ErrorKind::TimedOut,
+        "gave up reading or writing after 2^64 tries",
+    ))
+}
+
+// Writes the bytes of s from `from` up to `to`, or the first of them before an error.
 fn write_part<W: Write>(w: &mut W, s: &[u8], from: usize, to: usize) -> io::Result<()>
     requires { (from ≤ to) × (to ≤ length s.now) }
-    ensures { OnOk result (Appends (W.contents w.old) (W.contents w.new) (slice_range s.now from to)) }
+    ensures ok { OnOk result (Appends (W.contents w.old) (W.contents w.new) (slice_range s.now from to)) }
+    ensures err { OnErr result ((k : ℕ) × Appends (W.contents w.old) (W.contents w.new) (take k (slice_range s.now from to))) }
 {
-    w.write_all(&s[from..to])
+    let part = &s[from..to];
+    let mut done: usize = 0;
+    while done < part.len() {
+        let k = write_some(w, &part[done..])?;
+        if k == 0 {
+            return Err(io::Error::new(ErrorKind::WriteZero, "failed to write whole buffer"));
+        }
+        done += k;
+    }
+    Ok(())
 }
 
 // Prints the ticks and the closing line.

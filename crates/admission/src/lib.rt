@@ -151,6 +151,8 @@ fn counted(work: Work, turns: u64, exec: u32, part: u64, lead: u64, near: bool) 
 }
 
 // Own work and the terms of the first i tasks. Those that grow before `until` are counted by their parts.
+// inline(never): to keep the stack of the C call for admission small.
+#[inline(never)]
 fn tasks_demand(
     tasks: [Task; Table::MAX_TASKS as usize],
     parts: [u64; Table::MAX_TASKS as usize],

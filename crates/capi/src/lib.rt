@@ -172,23 +172,34 @@ fn ran_result(ran: Entry, done: Done, state: CState) -> TickResult
 fn tick_result_by(answer: TickAnswer, state: CState) -> TickResult
     ensures { result ≡ tick_at (answer_figures answer) state }
 {
+    // the state is written once, and not in each arm: to keep the stack of the C call for a tick small
+    let mut number: u32 = 0;
+    let mut ran = Entry {
+        kind: 0,
+        id: 0,
+        drops: 0,
+    };
+    let mut done = Done {
+        finished: 0,
+        request: 0,
+        response: 0,
+    };
     match answer {
         TickAnswer::Ran {
             occupant,
             drops,
             finish,
-        } => ran_result(occupant.entry(drops), done_by(finish), state),
-        TickAnswer::Refused(refusal) => TickResult {
-            number: refusal.number(),
-            kind: 0,
-            id: 0,
-            drops: 0,
-            finished: 0,
-            request: 0,
-            response: 0,
-            state,
-        },
+        } => {
+            ran = occupant.entry(drops);
+            done = done_by(finish);
+        }
+        TickAnswer::Refused(refusal) => {
+            number = refusal.number();
+        }
     }
+    let mut result = ran_result(ran, done, state);
+    result.number = number;
+    result
 }
 
 // ---- the calls

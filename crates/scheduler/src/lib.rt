@@ -48,34 +48,28 @@ pub fn tick(state: State) -> Ticked
 pub fn request(state: State, id: u32, work: u32) -> Moved
     ensures { (result ≡ request_call state id work) × (figures result.answer ≡ request_figures state work) }
 {
-    if !state.fit() {
-        return Moved {
-            answer: Checked::Refused(Refusal::UnfitState),
-            state,
-        };
-    }
-    if (work < 1) | (Table::MAX_WORK < work) {
-        return Moved {
-            answer: Checked::Refused(Refusal::BadWork),
-            state,
-        };
-    }
-    let queue = state.queue;
-    if Table::MAX_WAITING <= queue.n {
-        return Moved {
-            answer: Checked::Refused(Refusal::QueueFull),
-            state,
-        };
-    }
+    // the state is written once, and not for each answer: to keep the stack of the C call for a request small
     let table = state.table;
     let progress = state.progress;
     let returns = state.returns;
+    let mut queue = state.queue;
+    let full = Table::MAX_WAITING <= queue.n;
+    let mut answer = Checked::Passed;
+    if !state.fit() {
+        answer = Checked::Refused(Refusal::UnfitState);
+    } else if (work < 1) | (Table::MAX_WORK < work) {
+        answer = Checked::Refused(Refusal::BadWork);
+    } else if full {
+        answer = Checked::Refused(Refusal::QueueFull);
+    } else {
+        queue = queue.push(id, work, progress.clock);
+    }
     Moved {
-        answer: Checked::Passed,
+        answer,
         state: State {
             table,
             progress,
-            queue: queue.push(id, work, progress.clock),
+            queue,
             returns,
         },
     }

@@ -67,7 +67,7 @@ extern "C" {
  * are bound at their first call, the loader takes more there, once) and, in the caller's frame, the arguments and the result
  * by value, twice with some compilers: README.md has figures with that. */
 #define PILQANDUR_STACK_SET_UP 400
-#define PILQANDUR_STACK_ADMIT 1216
+#define PILQANDUR_STACK_ADMIT 1280
 #define PILQANDUR_STACK_REQUEST 3360
 #define PILQANDUR_STACK_TICK 3808
 #define PILQANDUR_STACK_RUN 4208

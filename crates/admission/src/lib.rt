@@ -151,8 +151,6 @@ fn counted(work: Work, turns: u64, exec: u32, part: u64, lead: u64, near: bool) 
 }
 
 // Own work and the terms of the first i tasks. Those that grow before `until` are counted by their parts.
-// inline(never): to keep the stack of the C call for admission small.
-#[inline(never)]
 fn tasks_demand(
     tasks: [Task; Table::MAX_TASKS as usize],
     parts: [u64; Table::MAX_TASKS as usize],
@@ -346,6 +344,8 @@ fn task_bounds(
 }
 
 // The bound of a server of kinds 1 to 4.
+// inline(always), and admit_checked never: to keep the stack of the C call for admission small.
+#[inline(always)]
 fn own_bound(table: Table, parts: Parts) -> u32
     requires { (passed (table_check table) ≡ true) × PartsOf table parts × (1 ≤ table.server.kind) }
     ensures { result ≡ own_bound (task_set_of table) }
@@ -412,6 +412,7 @@ fn server_admitted(kind: u32, bound: u32) -> bool
 }
 
 // The bounds of a table that passes.
+#[inline(never)]
 fn admit_checked(table: Table) -> Admission
     requires { passed (table_check table) ≡ true }
     ensures { result ≡ admission_by Checked.Passed (task_set_of table) }

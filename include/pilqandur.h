@@ -66,12 +66,12 @@ extern "C" {
  * off the machine code and measures beside it. To it come what memcpy, memmove and memset take (8 bytes were seen; where they
  * are bound at their first call, the loader takes more there, once) and, in the caller's frame, the arguments and the result
  * by value, twice with some compilers: README.md has figures with that. */
-#define PILQANDUR_STACK_SET_UP 400
-#define PILQANDUR_STACK_ADMIT 1280
-#define PILQANDUR_STACK_REQUEST 3360
-#define PILQANDUR_STACK_TICK 3808
-#define PILQANDUR_STACK_RUN 4208
-#define PILQANDUR_STACK_WAITING 2032
+#define PILQANDUR_STACK_SET_UP 392
+#define PILQANDUR_STACK_ADMIT 856
+#define PILQANDUR_STACK_REQUEST 2680
+#define PILQANDUR_STACK_TICK 3104
+#define PILQANDUR_STACK_RUN 2752
+#define PILQANDUR_STACK_WAITING 1336
 
 /* Kinds of a server. */
 #define PILQANDUR_BACKGROUND 0u

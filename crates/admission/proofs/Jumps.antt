@@ -18,15 +18,16 @@ use Rattle.server.specs.Server.{server_demand}
 use Rattle.table.specs.declared.Table.{Table}
 use Rattle.table.specs.declared.Task.{Task}
 use Rattle.table.specs.Facts.{TaskLimits, ServerLimits, no_task}
-use Rattle.table.specs.Model.{TaskSet, task_set_of}
+use Rattle.table.specs.Model.{task_set_of}
+use Rattle.admission.specs.declared.Term.{Term}
 use Rattle.admission.specs.declared.Work.{Work}
 use Rattle.bounds.specs.Least.{least}
 use Rattle.bounds.specs.Demand.{tasks_demand}
 use Rattle.bounds.specs.Terms.{demand_of}
-use Rattle.admission.specs.Jumps.{whole, Sure, TaskParts, ServerPart, ServerLead, Counted, DemandAt, OpenFrom, FirstMet}
+use Rattle.admission.specs.Jumps.{whole, Sure, TaskParts, ServerPart, ServerLead, ServerTerm, Counted, DemandAt, OpenFrom, FirstMet}
 use Rattle.bounds.proofs.Laws.{least-is, least-none, term_mono, server_mono}
 use Rattle.admission.proofs.Laws.{tasks-step, demand_with, demand-without}
-use Rattle.admission.proofs.Load.{ceil_reaches, ceil-some, part_le, share_le, load_le}
+use Rattle.admission.proofs.Shares.{ceil_reaches, ceil-some, part_le, share_le, load_le}
 
 -- ---- jumps
 -- what is demanded of l is demanded of every length from l on, and so is what is sure
@@ -64,33 +65,41 @@ parts-step tasks out j v h known e k b = by (dec_le (suc k) j)
         rw same (get_or-set_same out j v 0 h ∙ e)
 
 -- ---- one term more
-pub counted-at : (d t f : ℕ → ℕ) (l n e v lead : ℕ) (w r : Work) → ((x : ℕ) → f x ≡ d x + t x) → n * e ≡ t l →
-    ((x : ℕ) → l ≤ x → t l ≤ t x) → lead ≤ max_time * whole → ((x : ℕ) → lead + e * v * x ≤ whole * t x) → DemandAt d l w → Counted w n e v lead r →
-    DemandAt f l r
-counted-at d t f l n e v lead w r sum here mono most share at c = record {
+pub counted-at : (d t f : ℕ → ℕ) (l : ℕ) (x : Term) (w r : Work) → ((L : ℕ) → f L ≡ d L + t L) → x.turns * x.exec ≡ t l →
+    ((L : ℕ) → l ≤ L → t l ≤ t L) → x.lead ≤ max_time * whole → ((L : ℕ) → x.lead + x.exec * x.part * L ≤ whole * t L) →
+    DemandAt d l w → Counted w x r → DemandAt f l r
+counted-at d t f l x w r sum here mono most share at c = record {
   all = omega (arith, sum l, at.all, c.all);
   some = omega (arith, at.some, c.some);
   extra = omega (arith, c.extra);
-  sure = λ x h. omega (arith, sum x, at.sure x h, mono x h, c.sure x (whole * t x) (omega (arith, mono x h)) (share x));
+  sure = λ L h. omega (arith, sum L, at.sure L h, mono L h, c.sure L (whole * t L) (omega (arith, mono L h)) (share L));
 }
 
+-- task j of a table's first i, and its part
+pub record Turn (t : Table) (i j : ℕ) (x : Task) (v : ℕ) : Type 0 where
+  pub here : j < i
+  pub held : j < length t.tasks
+  pub is : x ≡ get_or t.tasks j no_task
+  pub limits : TaskLimits x
+  pub part : v ≡ whole / x.period
+
 -- a task's
-pub tasks-at-step : (tasks : List Task) (own l j n v : ℕ) (w r : Work) → j < length tasks → TaskLimits (get_or tasks j no_task) →
-    v ≡ whole / (get_or tasks j no_task).period → n ≡ ceil l (get_or tasks j no_task).period →
-    DemandAt (λ x. own + tasks_demand (take j tasks) x) l w → Counted w n (get_or tasks j no_task).exec v 0 r →
-    DemandAt (λ x. own + tasks_demand (take (suc j) tasks) x) l r
-tasks-at-step tasks own l j n v w r h k e f at c =
-    let task = get_or tasks j no_task in
-    counted-at (λ x. own + tasks_demand (take j tasks) x) (λ x. ceil x task.period * task.exec)
-    (λ x. own + tasks_demand (take (suc j) tasks) x) l n task.exec v 0 w r
-    (λ x. omega (arith, tasks-step x j tasks no_task h))
-    (ap (λ (m : ℕ). m * task.exec) f)
-    (λ x b. term_mono l x task.period task.exec b)
+abbrev pub task_term : Task → ℕ → ℕ → Term
+task_term x n v = record { turns = n; period = x.period; exec = x.exec; part = v; lead = 0 }
+
+pub tasks-at-step : (t : Table) (i own l j : ℕ) (x : Task) (n v : ℕ) (w r : Work) → Turn t i j x v → n ≡ ceil l x.period →
+    DemandAt (λ L. own + tasks_demand (take j t.tasks) L) l w → Counted w (task_term x n v) r →
+    DemandAt (λ L. own + tasks_demand (take (suc j) t.tasks) L) l r
+tasks-at-step t i own l j x n v w r turn f at c =
+    counted-at (λ L. own + tasks_demand (take j t.tasks) L) (λ L. ceil L x.period * x.exec)
+    (λ L. own + tasks_demand (take (suc j) t.tasks) L) l (task_term x n v) w r
+    (λ L. rw turn.is (omega (arith, tasks-step L j t.tasks no_task turn.held)))
+    (ap (λ (m : ℕ). m * x.exec) f)
+    (λ L b. term_mono l L x.period x.exec b)
     (omega arith)
-    (λ x. rw e (omega (
+    (λ L. rw turn.part (omega (
       arith,
-      share_le task.exec (whole / task.period) task.period (ceil x task.period) x (part_le task.period)
-          (ceil_reaches x task.period (omega arith)),
+      share_le x.exec (whole / x.period) x.period (ceil L x.period) L (part_le x.period) (ceil_reaches L x.period (omega (arith, turn.limits))),
     )))
     at c
 
@@ -142,16 +151,14 @@ module _ (s : Server) (n v : ℕ) (limits : ServerLimits s n) (part : ServerPart
             rw e (omega arith);
       }
 
+-- the demand of a table's first tasks, with its server's term and without it
 module _ (t : Table) (i own l : ℕ) (w : Work) (h : i ≤ t.n) (at : DemandAt (λ x. own + tasks_demand (take i t.tasks) x) l w) where
-  pub with_server_lem : (n v lead : ℕ) (r : Work) → ServerLead t.server v lead →
-      n * t.server.budget ≡ server_demand (kind_of t.server.kind) t.server l → Counted w n t.server.budget v lead r →
-      DemandAt (demand_of (task_set_of t) i own true) l r
-  with_server_lem n v lead r leads here c =
+  pub with_server_lem : (x : Term) (r : Work) → ServerTerm t.server l x → Counted w x r → DemandAt (demand_of (task_set_of t) i own true) l r
+  with_server_lem x r term c =
       let k = kind_of t.server.kind in
-      counted-at (λ x. own + tasks_demand (take i t.tasks) x) (server_demand k t.server) (demand_of (task_set_of t) i own true) l n
-      t.server.budget v lead w r
+      counted-at (λ x. own + tasks_demand (take i t.tasks) x) (server_demand k t.server) (demand_of (task_set_of t) i own true) l x w r
       (λ x. sym (demand_with t i own x (tasks_demand (take i t.tasks) x) h refl (server_demand k t.server x) refl))
-      here (server_mono k t.server l) leads.most leads.sure at c
+      term.turns (server_mono k t.server l) term.leads term.sure at c
 
   pub without-server : DemandAt (demand_of (task_set_of t) i own false) l w
   without-server = record {
@@ -167,10 +174,6 @@ open_first d l e = record { starts = omega arith; past = omega arith; none = λ 
 
 open_more : (d e : ℕ → ℕ) (l : ℕ) → ((x : ℕ) → 1 ≤ x → d x ≤ e x) → OpenFrom d l → OpenFrom e l
 open_more d e l more o = record { starts = o.starts; past = o.past; none = λ x a b. omega (arith, o.none x a b, more x a) }
-
--- own work only adds
-pub open_own : (p : TaskSet) (i own : ℕ) (beside : Bool) (l : ℕ) → OpenFrom (demand_of p i 0 beside) l → OpenFrom (demand_of p i own beside) l
-open_own p i own beside l = open_more (demand_of p i 0 beside) (demand_of p i own beside) l (λ x a. omega arith)
 
 -- a server above a task is above the next
 below-later : (place i S : ℕ) → cond (leb place i) S 0 ≤ cond (leb place (suc i)) S 0

@@ -1,19 +1,19 @@
 -- What an admitted table has: a bound for each task, within its deadline, at which the demand of document 01 is met, spelled out.
-use Rattle.std.specs.Prelude.{ℕ, zero, suc, ◌+◌, ◌≤◌, ◌<◌, ◌≡◌, refl, Bool, true, cond, List, [], ◌∷◌, ◌++◌, ltb, length, take, drop, get_or}
+use Rattle.std.specs.Prelude.{ℕ, zero, suc, ◌+◌, ◌≤◌, ◌<◌, ◌≡◌, refl, Bool, true, cond, List, [], ◌∷◌, ◌++◌, ltb, length, take, drop, get_or, Err, Ok, Result}
 use Rattle.std.proofs.Common.{arith, ap, ◌∙◌, ltb-true, le-leb}
 use Rattle.lists.specs.Lists.{all, overlay}
 use Rattle.lists.specs.Tests.{and_split, never}
 use Rattle.server.specs.Kind.{kind_of}
 use Rattle.server.specs.Server.{server_demand}
+use Rattle.table.specs.declared.Refusal.{Refusal}
 use Rattle.table.specs.declared.Table.{Table}
 use Rattle.table.specs.declared.Task.{Task}
-use Rattle.table.specs.declared.Checked.{Checked}
 use Rattle.table.specs.Model.{TaskSet, task_set_of}
 use Rattle.table.specs.Refusal.{passed}
 use Rattle.table.specs.State.{table_check}
 use Rattle.bounds.proofs.Least.{IsLeast, least_decided}
 use Rattle.bounds.specs.Demand.{tasks_demand, demand, task_bound, bounds_from, bounds, own_demand, own_bound, server_bound, server_admitted}
-use Rattle.bounds.specs.Admission.{no_bounds, admission_by, admission_call}
+use Rattle.bounds.specs.Admission.{no_bounds, admission_by, admission_of}
 
 -- R is a bound of task i, which is x: within the deadline; its execution and the terms of the tasks before it, and of the server if it
 -- stands below it, come to no more than R; and no shorter length will do
@@ -84,17 +84,17 @@ bounds-overlay p n xs i old h = front (bounds_from p n xs) (drop (length (bounds
 -- the admission call says so of its table
 pub record Admits (t : Table) : Type 0 where
   pub passes : passed (table_check t) ≡ true
-  pub tasks : (i : ℕ) (d : Task) → i < length (task_set_of t).tasks → Bound (task_set_of t) i (get_or (task_set_of t).tasks i d) (get_or (admission_call t).bounds i 0)
+  pub tasks : (i : ℕ) (d : Task) → i < length (task_set_of t).tasks → Bound (task_set_of t) i (get_or (task_set_of t).tasks i d) (get_or (admission_of t).bounds i 0)
   pub server : server_admitted (kind_of t.server.kind) (server_bound (task_set_of t)) ≡ true
 
-pub admits : (t : Table) → (admission_call t).admitted ≡ true → Admits t
+pub admits : (t : Table) → (admission_of t).admitted ≡ true → Admits t
 admits t e = go (table_check t) refl e
   where
     p : TaskSet
     p = task_set_of t
 
-    go : (c : Checked) → table_check t ≡ c → (admission_by c p).admitted ≡ true → Admits t
-    go Checked.Passed q e =
+    go : (c : Result Unit Refusal) → table_check t ≡ c → (admission_by c p).admitted ≡ true → Admits t
+    go (Ok tt) q e =
         let h : (all (ltb 0) (bounds p) ≡ true) × (server_admitted (kind_of t.server.kind) (server_bound p) ≡ true) =
         and_split (all (ltb 0) (bounds p)) (server_admitted (kind_of t.server.kind) (server_bound p)) e in
         record {
@@ -103,13 +103,13 @@ admits t e = go (table_check t) refl e
           server = h.1;
         }
       where
-        at : table_check t ≡ Checked.Passed → (i : ℕ) (d : Task) → i < length p.tasks → all (ltb 0) (bounds p) ≡ true →
-            Bound p i (get_or p.tasks i d) (get_or (admission_call t).bounds i 0)
+        at : table_check t ≡ Ok tt → (i : ℕ) (d : Task) → i < length p.tasks → all (ltb 0) (bounds p) ≡ true →
+            Bound p i (get_or p.tasks i d) (get_or (admission_of t).bounds i 0)
         at q i d k h =
             let z : get_or (bounds_from p 0 p.tasks) i 0 ≡ task_bound p (0 + i) (get_or p.tasks i d) = bounds-at p 0 p.tasks i d k in
             let n : 0 + i ≡ i = omega arith in
-            let y : get_or (admission_call t).bounds i 0 ≡ task_bound p i (get_or p.tasks i d) =
-            ap (λ (c : Checked). get_or (admission_by c p).bounds i 0) q ∙ bounds-overlay p 0 p.tasks i no_bounds k ∙ z
+            let y : get_or (admission_of t).bounds i 0 ≡ task_bound p i (get_or p.tasks i d) =
+            ap (λ (c : Result Unit Refusal). get_or (admission_by c p).bounds i 0) q ∙ bounds-overlay p 0 p.tasks i no_bounds k ∙ z
             ∙ ap (λ (j : ℕ). task_bound p j (get_or p.tasks i d)) n in
             rw y (bound-is p i (get_or p.tasks i d) (omega (
               arith,
@@ -118,4 +118,4 @@ admits t e = go (table_check t) refl e
               bounds-some p 0
                   p.tasks i k h,
             )))
-    go (Checked.Refused r) q e = never refl e
+    go (Err r) q e = never refl e

@@ -1,6 +1,6 @@
 -- Laws of the demand: each bound is the least length that meets it, it never falls as the length grows, and the least length is unique. And
 -- what the admission call says in figures.
-use Rattle.std.specs.Prelude.{ℕ, zero, suc, ◌+◌, ◌-◌, ◌*◌, ◌/◌, ◌≤◌, ◌<◌, ◌≡◌, refl, Bool, true, false, List, [], ◌∷◌, take}
+use Rattle.std.specs.Prelude.{ℕ, zero, suc, ◌+◌, ◌-◌, ◌*◌, ◌/◌, ◌≤◌, ◌<◌, ◌≡◌, refl, Bool, true, false, List, [], ◌∷◌, take, Result}
 use Rattle.std.proofs.Common.{arith, le-div_iff_mul-le, div-mul-le_self, le_refl, le_trans, mul-le-mul, sym, ap, ◌∙◌}
 use Rattle.std.proofs.Math.Nat.{div-zero}
 use Rattle.std.proofs.Math.Decide.{dec_le}
@@ -8,15 +8,15 @@ use Rattle.lists.specs.Time.{ceil}
 use Rattle.server.specs.declared.Server.{Server}
 use Rattle.server.specs.Kind.{Kind, background, polling, deferrable, sporadic, returning, kind_of}
 use Rattle.server.specs.Server.{server_demand}
+use Rattle.table.specs.declared.Refusal.{Refusal}
 use Rattle.table.specs.declared.Task.{Task}
 use Rattle.table.specs.declared.Table.{Table}
-use Rattle.table.specs.declared.Checked.{Checked}
 use Rattle.table.specs.Model.{TaskSet, task_set_of}
-use Rattle.table.specs.Refusal.{figures}
+use Rattle.table.specs.Refusal.{figures, giving_figures}
 use Rattle.table.specs.State.{table_check, table_figures}
 use Rattle.table.specs.Facts.{check_figures}
 use Rattle.bounds.specs.declared.Admission.{Admission}
-use Rattle.bounds.specs.Admission.{admission_by, admission_call}
+use Rattle.bounds.specs.Admission.{admission_for, admission_call}
 use Rattle.bounds.specs.Least.{least}
 use Rattle.bounds.proofs.Least.{IsLeast, Decided, least_decided}
 use Rattle.bounds.specs.Demand.{tasks_demand, below, demand, task_bound, own_demand, own_bound}
@@ -96,9 +96,9 @@ pub own-least : (p : TaskSet) (k : ℕ) →
 own-least p k = least-same (demand_of p p.server.place p.server.budget false) (own_demand p) (λ L. omega arith) k 1
 
 -- ---- the answer of the admission call says the table's figures
-pub admission_says : (t : Table) (a : Admission) → a ≡ admission_call t → (a ≡ admission_call t) × (figures a.answer ≡ table_figures t)
-admission_says t a e = (e, ap (λ (x : Admission). figures x.answer) e ∙ by (table_check t) ∙ check_figures t)
-  where
-    by : (c : Checked) → figures (admission_by c (task_set_of t)).answer ≡ figures c
-    by Checked.Passed = refl
-    by (Checked.Refused r) = refl
+pub admission_figures : (t : Table) → figures (admission_call t) ≡ table_figures t
+admission_figures t = giving_figures (table_check t) (admission_for (task_set_of t)) ∙ check_figures t
+
+-- an answer that is the call's says them
+pub admission_says : (t : Table) (a : Result Admission Refusal) → a ≡ admission_call t → (a ≡ admission_call t) × (figures a ≡ table_figures t)
+admission_says t a e = (e, ap (λ (x : Result Admission Refusal). figures x) e ∙ admission_figures t)

@@ -2,13 +2,12 @@
 // them is the crate `admission`.
 #![tactic(auto)]
 
-use table::{Checked, Table};
+use table::Table;
 
-// The answer of admission. bounds and serverbound are 0 where there is no bound; slots past the tasks in use are 0, and
-// of a refused table so is everything.
-#[derive(Clone, Copy)]
+// What admission says of a table that passes. bounds and serverbound are 0 where there is no bound; slots past the tasks in use are 0. The default
+// has no bounds and does not admit. 0 and no Option, in an array beside the tasks: C and the B lines have these numbers.
+#[derive(Debug, Clone, Copy, PartialEq, Eq, Default)]
 pub struct Admission {
-    pub answer: Checked,
     pub bounds: [u32; Table::MAX_TASKS as usize],
     pub serverbound: u32,
     pub admitted: bool,

@@ -1,142 +1,130 @@
 // One number for a whole state, slots that are not in use included: a refused call hands back a state with the same number, and
 // an accepted call one with the number of the state that it has to hand back.
-use lists::bit;
 use queue::{Queue, Request};
 use rules::Entry;
-use scheduler::Recording;
-use server::{Returns, ServerState, Stretch};
+use server::{Returns, Server, ServerState, Sporadic, Stretch};
 use table::{Progress, State, Table, Task};
 
 const MODULUS: u64 = 1000003;
 
-// The slots of a table.
-const TASKS: usize = Table::MAX_TASKS as usize;
-
-// The slots of a queue.
-const WAITING: usize = Table::MAX_WAITING as usize;
-
-// The slots of the returns.
-const STRETCHES: usize = Returns::CAPACITY as usize;
-
-fn mix(h: u64, x: u32) -> u64 {
-    ((h % MODULUS) * 31 + (x as u64)) % MODULUS
+// What has a part in such a number: each number in it is mixed in, in turn. It is no derived Hash: what wrote `stdout` takes the counts of queue
+// and returns before their slots and no length of an array, and that file stays. Each type mixes its own fields.
+pub trait Mix {
+    fn mix(&self, sum: &mut u64);
 }
 
-fn mix_four(h: u64, a: u32, b: u32, c: u32, d: u32) -> u64 {
-    mix(mix(mix(mix(h, a), b), c), d)
-}
-
-fn mix_tasks(h: u64, tasks: [Task; TASKS]) -> u64 {
-    let mut sum = h;
-    let mut i: usize = 0;
-    while i < TASKS {
-        let task = tasks[i];
-        sum = mix_four(sum, task.phase, task.period, task.exec, task.deadline);
-        i += 1;
+fn mix_all<T: Mix>(items: &[T], sum: &mut u64) {
+    for item in items {
+        item.mix(sum);
     }
+}
+
+// The number of a list.
+pub fn digest_all<T: Mix>(items: &[T]) -> u64 {
+    let mut sum = 0;
+    mix_all(items, &mut sum);
     sum
 }
 
-fn mix_table(h: u64, table: Table) -> u64 {
-    let tasks = table.tasks;
-    let s = table.server;
-    mix_four(
-        mix(mix_tasks(h, tasks), table.n),
-        s.kind,
-        s.place,
-        s.period,
-        s.budget,
-    )
-}
-
-// The numbers of an array, as what is left of the tasks, or their bounds.
-pub fn mix_all(h: u64, numbers: [u32; TASKS]) -> u64 {
-    let mut sum = h;
-    let mut i: usize = 0;
-    while i < TASKS {
-        let x = numbers[i];
-        sum = mix(sum, x);
-        i += 1;
-    }
+// The number of a state.
+pub fn digest(state: &State) -> u64 {
+    let mut sum = 0;
+    state.mix(&mut sum);
     sum
 }
 
-fn mix_server_state(h: u64, server: ServerState) -> u64 {
-    let x = server.sporadic;
-    mix_four(
-        mix_four(h, server.budget, x.tr, x.begin, x.nr),
-        bit(x.served),
-        bit(x.late),
-        bit(x.above),
-        bit(x.busy),
-    )
-}
-
-fn mix_progress(h: u64, progress: Progress) -> u64 {
-    let left = progress.left;
-    let server = progress.server;
-    mix(mix_server_state(mix_all(h, left), server), progress.clock)
-}
-
-fn mix_request(h: u64, request: Request) -> u64 {
-    mix(mix(mix(h, request.id), request.work), request.arrival)
-}
-
-fn mix_requests(h: u64, requests: [Request; WAITING]) -> u64 {
-    let mut sum = h;
-    let mut i: usize = 0;
-    while i < WAITING {
-        let request = requests[i];
-        sum = mix_request(sum, request);
-        i += 1;
+impl Mix for u32 {
+    fn mix(&self, sum: &mut u64) {
+        *sum = (*sum % MODULUS * 31 + u64::from(*self)) % MODULUS;
     }
-    sum
 }
 
-fn mix_queue(h: u64, queue: Queue) -> u64 {
-    let requests = queue.requests;
-    mix_requests(mix(mix(h, queue.n), queue.backlog), requests)
-}
-
-fn mix_stretch(h: u64, stretch: Stretch) -> u64 {
-    mix(mix(h, stretch.start), stretch.length)
-}
-
-fn mix_stretches(h: u64, stretches: [Stretch; STRETCHES]) -> u64 {
-    let mut sum = h;
-    let mut i: usize = 0;
-    while i < STRETCHES {
-        let stretch = stretches[i];
-        sum = mix_stretch(sum, stretch);
-        i += 1;
+impl Mix for bool {
+    fn mix(&self, sum: &mut u64) {
+        u32::from(*self).mix(sum);
     }
-    sum
 }
 
-fn mix_returns(h: u64, returns: Returns) -> u64 {
-    let stretches = returns.stretches;
-    mix_stretches(mix(h, returns.n), stretches)
-}
-
-// One number for the record of a run.
-pub fn mix_entries(entries: [Entry; Recording::TICKS]) -> u64 {
-    let mut sum: u64 = 0;
-    let mut i: usize = 0;
-    while i < Recording::TICKS {
-        let entry = entries[i];
-        sum = mix(mix(mix(sum, entry.kind), entry.id), entry.drops);
-        i += 1;
+impl Mix for Task {
+    fn mix(&self, sum: &mut u64) {
+        mix_all(&[self.phase, self.period, self.exec, self.deadline], sum);
     }
-    sum
 }
 
-pub fn digest(state: State) -> u64 {
-    let table = state.table;
-    let progress = state.progress;
-    let queue = state.queue;
-    let returns = state.returns;
-    mix_returns(
-        mix_queue(mix_progress(mix_table(0, table), progress), queue),
-        returns,
-    )
+impl Mix for Server {
+    fn mix(&self, sum: &mut u64) {
+        mix_all(&[self.kind, self.place, self.period, self.budget], sum);
+    }
+}
+
+impl Mix for Table {
+    fn mix(&self, sum: &mut u64) {
+        mix_all(&self.tasks, sum);
+        self.n.mix(sum);
+        self.server.mix(sum);
+    }
+}
+
+impl Mix for Sporadic {
+    fn mix(&self, sum: &mut u64) {
+        mix_all(&[self.tr, self.begin, self.nr], sum);
+        mix_all(&[self.served, self.late, self.above, self.busy], sum);
+    }
+}
+
+impl Mix for ServerState {
+    fn mix(&self, sum: &mut u64) {
+        self.budget.mix(sum);
+        self.sporadic.mix(sum);
+    }
+}
+
+impl Mix for Progress {
+    fn mix(&self, sum: &mut u64) {
+        mix_all(&self.left, sum);
+        self.server.mix(sum);
+        self.clock.mix(sum);
+    }
+}
+
+impl Mix for Request {
+    fn mix(&self, sum: &mut u64) {
+        mix_all(&[self.id, self.work, self.arrival], sum);
+    }
+}
+
+impl Mix for Queue {
+    fn mix(&self, sum: &mut u64) {
+        self.n.mix(sum);
+        self.backlog.mix(sum);
+        mix_all(&self.requests, sum);
+    }
+}
+
+impl Mix for Stretch {
+    fn mix(&self, sum: &mut u64) {
+        mix_all(&[self.start, self.length], sum);
+    }
+}
+
+impl Mix for Returns {
+    fn mix(&self, sum: &mut u64) {
+        self.n.mix(sum);
+        mix_all(&self.stretches, sum);
+    }
+}
+
+impl Mix for State {
+    fn mix(&self, sum: &mut u64) {
+        self.table.mix(sum);
+        self.progress.mix(sum);
+        self.queue.mix(sum);
+        self.returns.mix(sum);
+    }
+}
+
+impl Mix for Entry {
+    fn mix(&self, sum: &mut u64) {
+        mix_all(&[self.kind, self.id, self.drops], sum);
+    }
 }

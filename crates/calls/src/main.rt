@@ -7,275 +7,240 @@ mod digest;
 mod print;
 mod states;
 
-use print::{edit, field, text};
-use states::{edited, state_with};
+use print::{field, text};
+use rules::Entry;
+use states::{Edit, put, state};
 use std::io;
 use table::{State, Table};
 
 // ---- a line for a case
 
-// Each of these calls stands alone: the check of a function grows with its steps times the states that it holds.
-fn tick_call(rt: &impl Print, state: State) -> io::Result<()> {
-    print::ticked(rt, scheduler::tick(state))
+// Each of these calls stands alone, with a state of its own that it may change: the check of a function grows with its steps times the states
+// that it holds.
+fn tick_call(rt: &impl Print, mut state: State) -> io::Result<()> {
+    let answer = scheduler::tick(&mut state);
+    print::ticked(rt, answer, &state)
 }
 
-fn request_call(rt: &impl Print, word: &str, state: State, id: u32, work: u32) -> io::Result<()> {
-    print::moved(rt, word, scheduler::request(state, id, work))
+fn request_call(
+    rt: &impl Print,
+    word: &str,
+    mut state: State,
+    id: u32,
+    work: u32,
+) -> io::Result<()> {
+    let answer = scheduler::request(&mut state, id, work);
+    print::answered(rt, word, answer, &state)
 }
 
-// A run of k ticks, with a list of idle entries, as many as a block has.
-fn run_call(rt: &impl Print, state: State, k: u32) -> io::Result<()> {
-    print::recording(rt, scheduler::run_block(state, k))
-}
-
-fn waiting_call(rt: &impl Print, state: State) -> io::Result<()> {
-    print::waiting(rt, scheduler::waiting(state))
-}
-
-fn set_up_call(rt: &impl Print, table: Table) -> io::Result<()> {
-    print::set_up(rt, table.set_up())
+// A run of k ticks, with a list of 32 idle entries.
+fn run_call(rt: &impl Print, mut state: State, k: u32) -> io::Result<()> {
+    let mut entries = [Entry::default(); 32];
+    let answer = scheduler::run(&mut state, k, &mut entries);
+    print::answered(rt, "; run ", answer, &state)?;
+    print::entries(rt, &entries)
 }
 
 // What the calls on a table answer.
-fn table_calls(rt: &impl Print, table: Table) -> io::Result<()> {
-    print::checked(rt, "; check ", table.check())?;
-    set_up_call(rt, table)?;
+fn table_calls(rt: &impl Print, table: &Table) -> io::Result<()> {
+    print::answer(rt, "; check ", &table.check())?;
+    print::set_up(rt, table.set_up(), table)?;
     print::admission(rt, admission::admit(table))
 }
 
-// What the calls answer on a state, and on its table too where a case is of the table.
+// What the calls answer on a state, and on its table too where a case is of the table. A flag: what differs is one part of the line.
 fn answers(rt: &impl Print, state: State, of_table: bool) -> io::Result<()> {
-    print::fit(rt, state)?;
+    print::fit(rt, &state)?;
     tick_call(rt, state)?;
     request_call(rt, "; request ", state, 5, 1)?;
     run_call(rt, state, 0)?;
     run_call(rt, state, 32)?;
     run_call(rt, state, 33)?;
-    waiting_call(rt, state)?;
+    print::waiting(rt, scheduler::waiting(&state))?;
     if of_table {
-        table_calls(rt, state.table)?;
+        table_calls(rt, &state.table)?;
     }
     text(rt, "\n")
 }
 
-// The start of a line: the kind of server, and the field that the case changes.
-fn starts(rt: &impl Print, kind: u32, letter: u8, slot: usize, value: u32) -> io::Result<()> {
-    field(rt, "server ", kind as u64)?;
-    edit(rt, letter, slot, value)
-}
-
-fn case(
-    rt: &impl Print,
+// The cases of one kind of server. The kind is a number here and in `states`, as it is in a table, which may hold any.
+#[derive(Drop)]
+struct Cases<'a, P> {
+    rt: &'a P,
     kind: u32,
-    letter: u8,
-    slot: usize,
-    value: u32,
-    of_table: bool,
-) -> io::Result<()> {
-    starts(rt, kind, letter, slot, value)?;
-    answers(rt, edited(kind, letter, slot, value), of_table)
 }
 
-// Two fields at once: the order of the refusals.
-fn pair_case(
-    rt: &impl Print,
-    kind: u32,
-    letter: u8,
-    slot: usize,
-    value: u32,
-    also: u8,
-    at: usize,
-    other: u32,
-) -> io::Result<()> {
-    starts(rt, kind, letter, slot, value)?;
-    edit(rt, also, at, other)?;
-    answers(
-        rt,
-        state_with(edited(kind, letter, slot, value), also, at, other),
-        true,
-    )
-}
-
-// Requests of each work, where so many wait.
-fn request_case(rt: &impl Print, kind: u32, waiting: u32, work: u32) -> io::Result<()> {
-    starts(rt, kind, b'q', 0, waiting)?;
-    field(rt, " work ", work as u64)?;
-    request_call(
-        rt,
-        ": request ",
-        edited(kind, b'q', 0, waiting),
-        4294967295,
-        work,
-    )?;
-    text(rt, "\n")
-}
-
-// ---- a case for each value
-
-fn cases(
-    rt: &impl Print,
-    kind: u32,
-    letter: u8,
-    slot: usize,
-    of_table: bool,
-    values: &[u32],
-) -> io::Result<()> {
-    let mut i: usize = 0;
-    while i < values.len() {
-        case(rt, kind, letter, slot, values[i], of_table)?;
-        i += 1;
+impl<'a, P: Print> Cases<'a, P> {
+    // The start of a line: the kind, and the fields that the case changes. What is handed back is the state with them.
+    fn edited(&self, edits: &[Edit]) -> io::Result<State> {
+        let mut state = state(self.kind);
+        field(self.rt, "server ", self.kind)?;
+        for edit in edits {
+            print::edit(self.rt, *edit)?;
+            edit.apply(&mut state);
+        }
+        Ok(state)
     }
-    Ok(())
-}
 
-fn request_cases(rt: &impl Print, kind: u32, waiting: u32, works: &[u32]) -> io::Result<()> {
-    let mut i: usize = 0;
-    while i < works.len() {
-        request_case(rt, kind, waiting, works[i])?;
-        i += 1;
+    fn case(&self, edits: &[Edit], of_table: bool) -> io::Result<()> {
+        let state = self.edited(edits)?;
+        answers(self.rt, state, of_table)
     }
-    Ok(())
-}
 
-// ---- the limits of a table
+    // Two fields at once: the order of the refusals.
+    fn pair(&self, edit: Edit, other: Edit) -> io::Result<()> {
+        self.case(&[edit, other], true)
+    }
 
-// A task in use has 1 ≤ e ≤ D ≤ p ≤ 60,000 and f ≤ 60,000. Task 0 stands at 1, 10, 3, 8; task 1, the last in use, at 0, 20, 4, 20;
-// the slot after it is not looked at.
-fn tasks(rt: &impl Print, kind: u32) -> io::Result<()> {
-    cases(rt, kind, b'f', 0, true, &[0, 60000, 60001, 4294967295])?;
-    cases(rt, kind, b'p', 0, true, &[0, 7, 8, 60000, 60001])?;
-    cases(rt, kind, b'e', 0, true, &[0, 1, 2, 8, 9])?;
-    cases(rt, kind, b'D', 0, true, &[0, 2, 3, 10, 11])?;
-    cases(rt, kind, b'f', 1, true, &[60000, 60001])?;
-    cases(rt, kind, b'e', 1, true, &[0, 4, 20, 21])?;
-    cases(rt, kind, b'D', 1, true, &[3, 4, 20, 21])?;
-    cases(rt, kind, b'e', 2, true, &[0, 9])
-}
+    // Requests of each work, where so many wait.
+    fn request_case(&self, waiting: u32, work: u32) -> io::Result<()> {
+        let state = self.edited(&[put('q', 0, waiting)])?;
+        field(self.rt, " work ", work)?;
+        request_call(self.rt, ": request ", state, u32::MAX, work)?;
+        text(self.rt, "\n")
+    }
 
-fn server(rt: &impl Print, kind: u32) -> io::Result<()> {
-    cases(rt, kind, b'n', 0, true, &[0, 1, 2, 3, 16, 17, 4294967295])?;
-    cases(rt, kind, b'k', 0, true, &[0, 1, 2, 3, 4, 5, 4294967295])?;
-    cases(rt, kind, b's', 0, true, &[0, 1, 2, 3])?;
-    cases(rt, kind, b'P', 0, true, &[0, 3, 4, 60000, 60001])?;
-    cases(rt, kind, b'B', 0, true, &[0, 1, 2, 3, 10, 11])
-}
+    // ---- a case for each value
 
-// 1 before 2, 2 before 3, and the first bad index of two.
-fn table_orders(rt: &impl Print, kind: u32) -> io::Result<()> {
-    pair_case(rt, kind, b'n', 0, 0, b'e', 0, 0)?;
-    pair_case(rt, kind, b'n', 0, 17, b'k', 0, 5)?;
-    pair_case(rt, kind, b'e', 1, 0, b'k', 0, 5)?;
-    pair_case(rt, kind, b'e', 1, 0, b'f', 0, 60001)?;
-    pair_case(rt, kind, b'n', 0, 3, b'e', 2, 0)?;
-    pair_case(rt, kind, b'n', 0, 16, b'e', 15, 9)
-}
+    fn fields(&self, letter: char, slot: usize, of_table: bool, values: &[u32]) -> io::Result<()> {
+        for value in values {
+            self.case(&[put(letter, slot, *value)], of_table)?;
+        }
+        Ok(())
+    }
 
-// ---- the limits of a state
+    fn works(&self, waiting: u32, works: &[u32]) -> io::Result<()> {
+        for work in works {
+            self.request_case(waiting, *work)?;
+        }
+        Ok(())
+    }
 
-fn progress(rt: &impl Print, kind: u32) -> io::Result<()> {
-    cases(rt, kind, b'l', 0, false, &[0, 3, 4])?;
-    cases(rt, kind, b'l', 1, false, &[0, 4, 5, 4294967295])?;
-    cases(rt, kind, b'l', 2, false, &[0, 4294967295])?;
-    cases(rt, kind, b'c', 0, false, &[99, 100, 3999999999, 4000000000])?;
-    cases(rt, kind, b'c', 0, false, &[4000000001, 4294967295])?;
-    cases(rt, kind, b'b', 0, false, &[0, 1, 4, 5])?;
-    cases(rt, kind, b't', 0, false, &[0, 100, 101])?;
-    cases(rt, kind, b'g', 0, false, &[0, 100, 101])?;
-    cases(rt, kind, b'r', 0, false, &[100, 4000060000, 4000060001])
-}
+    // ---- the limits of a table
 
-// Slots 0 to 2 are in use, slot 3 is not. 64 might wait before 6/13.
-fn queue(rt: &impl Print, kind: u32) -> io::Result<()> {
-    cases(
-        rt,
-        kind,
-        b'q',
-        0,
-        false,
-        &[0, 1, 23, 24, 25, 64, 4294967295],
-    )?;
-    cases(rt, kind, b'w', 0, false, &[0, 1, 60000, 60001])?;
-    cases(rt, kind, b'w', 2, false, &[0, 60000, 60001])?;
-    cases(rt, kind, b'w', 3, false, &[0, 60001])?;
-    cases(rt, kind, b'a', 0, false, &[0, 100, 101])?;
-    cases(rt, kind, b'a', 2, false, &[100, 101])?;
-    cases(rt, kind, b'a', 3, false, &[101])?;
-    cases(rt, kind, b'i', 0, false, &[0, 4294967295])
-}
+    // A task in use has 1 ≤ e ≤ D ≤ p ≤ 60,000 and f ≤ 60,000. Task 0 stands at 1, 10, 3, 8; task 1, the last in use, at 0, 20, 4, 20;
+    // the slot after it is not looked at.
+    fn tasks(&self) -> io::Result<()> {
+        self.fields('f', 0, true, &[0, 60000, 60001, u32::MAX])?;
+        self.fields('p', 0, true, &[0, 7, 8, 60000, 60001])?;
+        self.fields('e', 0, true, &[0, 1, 2, 8, 9])?;
+        self.fields('D', 0, true, &[0, 2, 3, 10, 11])?;
+        self.fields('f', 1, true, &[60000, 60001])?;
+        self.fields('e', 1, true, &[0, 4, 20, 21])?;
+        self.fields('D', 1, true, &[3, 4, 20, 21])?;
+        self.fields('e', 2, true, &[0, 9])
+    }
 
-// 2, 60,000 and 1 ticks of work wait; where the other slots count too, and where less do.
-fn backlog(rt: &impl Print, kind: u32) -> io::Result<()> {
-    cases(
-        rt,
-        kind,
-        b'F',
-        0,
-        false,
-        &[0, 1, 60002, 60003, 60004, 60108],
-    )?;
-    cases(rt, kind, b'F', 0, false, &[125539, 2147543651, 4294967295])?;
-    pair_case(rt, kind, b'q', 0, 0, b'F', 0, 1)?;
-    pair_case(rt, kind, b'q', 0, 2, b'F', 0, 60003)?;
-    pair_case(rt, kind, b'q', 0, 4, b'F', 0, 60003)?;
-    pair_case(rt, kind, b'w', 0, 3, b'F', 0, 60003)?;
-    pair_case(rt, kind, b'w', 3, 6, b'F', 0, 60003)
-}
+    fn server(&self) -> io::Result<()> {
+        self.fields('n', 0, true, &[0, 1, 2, 3, 16, 17, u32::MAX])?;
+        self.fields('k', 0, true, &[0, 1, 2, 3, 4, 5, u32::MAX])?;
+        self.fields('s', 0, true, &[0, 1, 2, 3])?;
+        self.fields('P', 0, true, &[0, 3, 4, 60000, 60001])?;
+        self.fields('B', 0, true, &[0, 1, 2, 3, 10, 11])
+    }
 
-// Kind 4's further limits, which the others do not ask: ticks 92, 93 and 96 are held, and one budget tick is left of four.
-fn returns(rt: &impl Print, kind: u32) -> io::Result<()> {
-    cases(rt, kind, b'h', 0, false, &[0, 1, 3, 32, 33, 4294967295])?;
-    cases(rt, kind, b'S', 0, false, &[89, 90, 93, 94, 95, 97])?;
-    cases(rt, kind, b'S', 1, false, &[94, 95, 99, 100, 4294967295])?;
-    cases(rt, kind, b'L', 0, false, &[0, 1, 3])?;
-    cases(rt, kind, b'L', 1, false, &[0, 2, 4294967295])?;
-    cases(rt, kind, b'L', 2, false, &[0])
-}
+    // 1 before 2, 2 before 3, and the first bad index of two.
+    fn table_orders(&self) -> io::Result<()> {
+        self.pair(put('n', 0, 0), put('e', 0, 0))?;
+        self.pair(put('n', 0, 17), put('k', 0, 5))?;
+        self.pair(put('e', 1, 0), put('k', 0, 5))?;
+        self.pair(put('e', 1, 0), put('f', 0, 60001))?;
+        self.pair(put('n', 0, 3), put('e', 2, 0))?;
+        self.pair(put('n', 0, 16), put('e', 15, 9))
+    }
 
-// The held ticks and the budget together.
-fn returns_orders(rt: &impl Print, kind: u32) -> io::Result<()> {
-    pair_case(rt, kind, b'b', 0, 0, b'L', 0, 3)?;
-    pair_case(rt, kind, b'b', 0, 2, b'L', 1, 0)?;
-    pair_case(rt, kind, b'b', 0, 2, b'h', 0, 1)?;
-    pair_case(rt, kind, b'b', 0, 4, b'h', 0, 0)?;
-    pair_case(rt, kind, b'c', 0, 97, b'P', 0, 5)?;
-    pair_case(rt, kind, b'c', 0, 97, b'P', 0, 4)
-}
+    // ---- the limits of a state
 
-// 11 before 6.
-fn state_orders(rt: &impl Print, kind: u32) -> io::Result<()> {
-    pair_case(rt, kind, b'c', 0, 4000000000, b'l', 0, 4)?;
-    pair_case(rt, kind, b'c', 0, 4000000000, b'q', 0, 24)?;
-    pair_case(rt, kind, b'c', 0, 4000000000, b't', 0, 4000000000)?;
-    pair_case(rt, kind, b'c', 0, 4000000000, b't', 0, 4000000001)?;
-    pair_case(rt, kind, b'c', 0, 3999999999, b'b', 0, 0)
-}
+    fn progress(&self) -> io::Result<()> {
+        self.fields('l', 0, false, &[0, 3, 4])?;
+        self.fields('l', 1, false, &[0, 4, 5, u32::MAX])?;
+        self.fields('l', 2, false, &[0, u32::MAX])?;
+        self.fields('c', 0, false, &[99, 100, 3999999999, 4000000000])?;
+        self.fields('c', 0, false, &[4000000001, u32::MAX])?;
+        self.fields('b', 0, false, &[0, 1, 4, 5])?;
+        self.fields('t', 0, false, &[0, 100, 101])?;
+        self.fields('g', 0, false, &[0, 100, 101])?;
+        self.fields('r', 0, false, &[100, 4000060000, 4000060001])
+    }
 
-// 11 before 4, and 4 before 5.
-fn requests(rt: &impl Print, kind: u32) -> io::Result<()> {
-    request_cases(rt, kind, 0, &[0, 1, 60000, 60001, 4294967295])?;
-    request_cases(rt, kind, 23, &[0, 1, 60000, 60001])?;
-    request_cases(rt, kind, 24, &[0, 1, 60000, 60001])?;
-    request_cases(rt, kind, 25, &[0, 1])?;
-    request_cases(rt, kind, 64, &[0, 1])
-}
+    // Slots 0 to 2 are in use, slot 3 is not. 64 might wait before 6/13.
+    fn queue(&self) -> io::Result<()> {
+        self.fields('q', 0, false, &[0, 1, 23, 24, 25, 64, u32::MAX])?;
+        self.fields('w', 0, false, &[0, 1, 60000, 60001])?;
+        self.fields('w', 2, false, &[0, 60000, 60001])?;
+        self.fields('w', 3, false, &[0, 60001])?;
+        self.fields('a', 0, false, &[0, 100, 101])?;
+        self.fields('a', 2, false, &[100, 101])?;
+        self.fields('a', 3, false, &[101])?;
+        self.fields('i', 0, false, &[0, u32::MAX])
+    }
 
-fn limits(rt: &impl Print, kind: u32) -> io::Result<()> {
-    tasks(rt, kind)?;
-    server(rt, kind)?;
-    table_orders(rt, kind)?;
-    progress(rt, kind)?;
-    queue(rt, kind)?;
-    backlog(rt, kind)?;
-    returns(rt, kind)?;
-    returns_orders(rt, kind)?;
-    state_orders(rt, kind)?;
-    requests(rt, kind)
+    // 2, 60,000 and 1 ticks of work wait; where the other slots count too, and where less do.
+    fn backlog(&self) -> io::Result<()> {
+        self.fields('F', 0, false, &[0, 1, 60002, 60003, 60004, 60108])?;
+        self.fields('F', 0, false, &[125539, 2147543651, u32::MAX])?;
+        self.pair(put('q', 0, 0), put('F', 0, 1))?;
+        self.pair(put('q', 0, 2), put('F', 0, 60003))?;
+        self.pair(put('q', 0, 4), put('F', 0, 60003))?;
+        self.pair(put('w', 0, 3), put('F', 0, 60003))?;
+        self.pair(put('w', 3, 6), put('F', 0, 60003))
+    }
+
+    // Kind 4's further limits, which the others do not ask: ticks 92, 93 and 96 are held, and one budget tick is left of four.
+    fn returns(&self) -> io::Result<()> {
+        self.fields('h', 0, false, &[0, 1, 3, 32, 33, u32::MAX])?;
+        self.fields('S', 0, false, &[89, 90, 93, 94, 95, 97])?;
+        self.fields('S', 1, false, &[94, 95, 99, 100, u32::MAX])?;
+        self.fields('L', 0, false, &[0, 1, 3])?;
+        self.fields('L', 1, false, &[0, 2, u32::MAX])?;
+        self.fields('L', 2, false, &[0])
+    }
+
+    // The held ticks and the budget together.
+    fn returns_orders(&self) -> io::Result<()> {
+        self.pair(put('b', 0, 0), put('L', 0, 3))?;
+        self.pair(put('b', 0, 2), put('L', 1, 0))?;
+        self.pair(put('b', 0, 2), put('h', 0, 1))?;
+        self.pair(put('b', 0, 4), put('h', 0, 0))?;
+        self.pair(put('c', 0, 97), put('P', 0, 5))?;
+        self.pair(put('c', 0, 97), put('P', 0, 4))
+    }
+
+    // 11 before 6.
+    fn state_orders(&self) -> io::Result<()> {
+        self.pair(put('c', 0, 4000000000), put('l', 0, 4))?;
+        self.pair(put('c', 0, 4000000000), put('q', 0, 24))?;
+        self.pair(put('c', 0, 4000000000), put('t', 0, 4000000000))?;
+        self.pair(put('c', 0, 4000000000), put('t', 0, 4000000001))?;
+        self.pair(put('c', 0, 3999999999), put('b', 0, 0))
+    }
+
+    // 11 before 4, and 4 before 5.
+    fn requests(&self) -> io::Result<()> {
+        self.works(0, &[0, 1, 60000, 60001, u32::MAX])?;
+        self.works(23, &[0, 1, 60000, 60001])?;
+        self.works(24, &[0, 1, 60000, 60001])?;
+        self.works(25, &[0, 1])?;
+        self.works(64, &[0, 1])
+    }
+
+    fn limits(&self) -> io::Result<()> {
+        self.tasks()?;
+        self.server()?;
+        self.table_orders()?;
+        self.progress()?;
+        self.queue()?;
+        self.backlog()?;
+        self.returns()?;
+        self.returns_orders()?;
+        self.state_orders()?;
+        self.requests()
+    }
 }
 
 fn main(rt: HostRuntime) -> io::Result<()> {
-    limits(&rt, 0)?;
-    limits(&rt, 1)?;
-    limits(&rt, 2)?;
-    limits(&rt, 3)?;
-    limits(&rt, 4)
+    for kind in 0..=4 {
+        Cases { rt: &rt, kind }.limits()?;
+    }
+    Ok(())
 }

@@ -1,124 +1,127 @@
 // Answers as text on standard output. A call's answer is document 01's number of the refusal, 0 for none, with the index of a 2.
-use crate::digest::{digest, mix_all, mix_entries};
+use crate::digest::{digest, digest_all};
+use crate::states::Edit;
 use bounds::Admission;
-use lists::bit;
-use queue::Finish;
-use rules::{Moved, Occupant, TickAnswer, Ticked, Waiting};
-use scheduler::Recording;
+use queue::Finished;
+use rules::{Entry, Occupant, Ticked};
+use std::fmt::Display;
 use std::io;
-use table::{Checked, Refusal, SetUp, State};
+use table::{Refusal, State, Table};
 
 pub fn text(rt: &impl Print, words: &str) -> io::Result<()> {
     print!(rt; "{words}")
 }
 
 // A word and a number after it.
-pub fn field(rt: &impl Print, word: &str, number: u64) -> io::Result<()> {
+pub fn field(rt: &impl Print, word: &str, number: impl Display + Drop) -> io::Result<()> {
     print!(rt; "{word}{number}")
 }
 
 fn flag(rt: &impl Print, word: &str, b: bool) -> io::Result<()> {
-    field(rt, word, bit(b) as u64)
+    field(rt, word, u32::from(b))
 }
 
-fn refusal(rt: &impl Print, word: &str, r: Refusal) -> io::Result<()> {
-    field(rt, word, r.number() as u64)?;
-    if let Refusal::BadTask(i) = r {
-        field(rt, " at ", i as u64)?;
+fn refusal(rt: &impl Print, word: &str, refusal: Refusal) -> io::Result<()> {
+    field(rt, word, refusal.number())?;
+    if let Refusal::BadTask(i) = refusal {
+        field(rt, " at ", i)?;
     }
     Ok(())
 }
 
-pub fn checked(rt: &impl Print, word: &str, c: Checked) -> io::Result<()> {
-    match c {
-        Checked::Passed => field(rt, word, 0),
-        Checked::Refused(r) => refusal(rt, word, r),
+// Whether a call refused.
+pub fn answer<T>(rt: &impl Print, word: &str, answer: &Result<T, Refusal>) -> io::Result<()> {
+    match answer {
+        Ok(_) => field(rt, word, 0),
+        Err(r) => refusal(rt, word, *r),
     }
 }
 
-// The number of a state that a call hands back.
-fn handed(rt: &impl Print, s: State) -> io::Result<()> {
-    field(rt, " state ", digest(s))
+// The number of a state that a call leaves.
+fn handed(rt: &impl Print, state: &State) -> io::Result<()> {
+    field(rt, " state ", digest(state))
 }
 
-fn answered(rt: &impl Print, word: &str, answer: Checked, after: State) -> io::Result<()> {
-    checked(rt, word, answer)?;
+pub fn answered(
+    rt: &impl Print,
+    word: &str,
+    moved: Result<(), Refusal>,
+    after: &State,
+) -> io::Result<()> {
+    answer(rt, word, &moved)?;
     handed(rt, after)
 }
 
-pub fn fit(rt: &impl Print, s: State) -> io::Result<()> {
-    flag(rt, ": fit ", s.fit())?;
-    handed(rt, s)
+pub fn fit(rt: &impl Print, state: &State) -> io::Result<()> {
+    flag(rt, ": fit ", state.fit())?;
+    handed(rt, state)
 }
 
-pub fn set_up(rt: &impl Print, s: SetUp) -> io::Result<()> {
-    answered(rt, "; set-up ", s.answer, s.state)
+// Of a refused table, the fresh state that it would have.
+pub fn set_up(rt: &impl Print, set_up: Result<State, Refusal>, table: &Table) -> io::Result<()> {
+    answer(rt, "; set-up ", &set_up)?;
+    handed(rt, &set_up.unwrap_or(table.fresh()))
 }
 
-pub fn admission(rt: &impl Print, a: Admission) -> io::Result<()> {
-    checked(rt, "; admission ", a.answer)?;
-    flag(rt, " admitted ", a.admitted)?;
-    field(rt, " server ", a.serverbound as u64)?;
-    field(rt, " bounds ", mix_all(0, a.bounds))
+// Of a refused table, no bounds.
+pub fn admission(rt: &impl Print, admission: Result<Admission, Refusal>) -> io::Result<()> {
+    answer(rt, "; admission ", &admission)?;
+    let Admission {
+        bounds,
+        serverbound,
+        admitted,
+    } = admission.unwrap_or_default();
+    flag(rt, " admitted ", admitted)?;
+    field(rt, " server ", serverbound)?;
+    field(rt, " bounds ", digest_all(&bounds))
 }
 
-fn occupant(rt: &impl Print, o: Occupant) -> io::Result<()> {
-    match o {
+fn occupant(rt: &impl Print, occupant: Occupant) -> io::Result<()> {
+    match occupant {
         Occupant::Idle => text(rt, " idle"),
-        Occupant::Task(i) => field(rt, " row ", i as u64),
-        Occupant::Request(i) => field(rt, " request ", i as u64),
+        Occupant::Task(i) => field(rt, " row ", i),
+        Occupant::Request(id) => field(rt, " request ", id),
     }
 }
 
-fn finish(rt: &impl Print, f: Finish) -> io::Result<()> {
-    if let Finish::Finished { id, response } = f {
-        field(rt, " finished ", id as u64)?;
-        field(rt, " response ", response as u64)?;
+fn finish(rt: &impl Print, finished: Option<Finished>) -> io::Result<()> {
+    if let Some(request) = finished {
+        field(rt, " finished ", request.id)?;
+        field(rt, " response ", request.response)?;
     }
     Ok(())
 }
 
-fn ran(rt: &impl Print, o: Occupant, drops: u32, f: Finish) -> io::Result<()> {
-    field(rt, "; tick ", 0)?;
-    occupant(rt, o)?;
-    field(rt, " drops ", drops as u64)?;
-    finish(rt, f)
+fn ran(rt: &impl Print, ticked: Ticked) -> io::Result<()> {
+    occupant(rt, ticked.occupant)?;
+    field(rt, " drops ", ticked.drops)?;
+    finish(rt, ticked.finished)
 }
 
-fn tick_answer(rt: &impl Print, a: TickAnswer) -> io::Result<()> {
-    match a {
-        TickAnswer::Refused(r) => refusal(rt, "; tick ", r),
-        TickAnswer::Ran {
-            occupant: o,
-            drops,
-            finish: f,
-        } => ran(rt, o, drops, f),
+pub fn ticked(rt: &impl Print, ticked: Result<Ticked, Refusal>, after: &State) -> io::Result<()> {
+    answer(rt, "; tick ", &ticked)?;
+    if let Ok(ticked) = ticked {
+        ran(rt, ticked)?;
     }
+    handed(rt, after)
 }
 
-pub fn ticked(rt: &impl Print, t: Ticked) -> io::Result<()> {
-    tick_answer(rt, t.answer)?;
-    handed(rt, t.state)
+pub fn entries(rt: &impl Print, entries: &[Entry]) -> io::Result<()> {
+    field(rt, " entries ", digest_all(entries))
 }
 
-pub fn moved(rt: &impl Print, word: &str, m: Moved) -> io::Result<()> {
-    answered(rt, word, m.answer, m.state)
-}
-
-pub fn recording(rt: &impl Print, r: Recording) -> io::Result<()> {
-    answered(rt, "; run ", r.answer, r.state)?;
-    field(rt, " entries ", mix_entries(r.entries))
-}
-
-pub fn waiting(rt: &impl Print, w: Waiting) -> io::Result<()> {
-    checked(rt, "; waiting ", w.answer)?;
-    field(rt, " work ", w.work as u64)
+// Beside a refusal the work is 0.
+pub fn waiting(rt: &impl Print, work: Result<u32, Refusal>) -> io::Result<()> {
+    answer(rt, "; waiting ", &work)?;
+    field(rt, " work ", work.unwrap_or(0))
 }
 
 // The field that a case changes, and the value that it puts there.
-pub fn edit(rt: &impl Print, letter: u8, slot: usize, value: u32) -> io::Result<()> {
-    let name = letter as char;
-    print!(rt; " {name}")?;
-    field(rt, " ", slot as u64)?;
-    field(rt, " = ", value as u64)
+pub fn edit(rt: &impl Print, edit: Edit) -> io::Result<()> {
+    let Edit {
+        letter,
+        slot,
+        value,
+    } = edit;
+    print!(rt; " {letter} {slot} = {value}")
 }

@@ -3,12 +3,6 @@ use queue::{Queue, Request};
 use server::{Returns, Server, ServerState, Sporadic, Stretch};
 use table::{Progress, State, Table, Task};
 
-// A field of a state goes by a letter, and by a slot where it stands in an array (0 where it does not):
-//   tasks     f phase, p period, e exec, D deadline (each with a slot), n how many are in use
-//   server    k kind, s place, P period, B budget
-//   progress  l left (with a slot), b budget, t tr, g begin, r nr, c clock
-//   queue     i id, w work, a arrival (each with a slot), q how many wait
-//   returns   S start, L length (each with a slot), h how many stretches are held
 // Two tasks in use; the other slots hold tasks that keep their limits. Kind 0 stands below both tasks and has no budget; every
 // other kind has one task above it.
 fn table(kind: u32) -> Table {
@@ -25,40 +19,30 @@ fn table(kind: u32) -> Table {
         exec: 4,
         deadline: 20,
     };
-    let mut server = Server {
-        kind,
-        place: 1,
-        period: 10,
-        budget: 4,
-    };
-    if kind == 0 {
-        server = Server {
-            kind: 0,
-            place: 2,
-            period: 0,
-            budget: 0,
-        };
-    }
+    let (place, period, budget) = if kind == 0 { (2, 0, 0) } else { (1, 10, 4) };
     Table {
         tasks,
         n: 2,
-        server,
+        server: Server {
+            kind,
+            place,
+            period,
+            budget,
+        },
     }
 }
 
 // What is left of task 0 and task 1; slot 2 is not in use, and holds more than any task may.
 fn progress(kind: u32) -> Progress {
-    let mut left = [0u32; Table::MAX_TASKS as usize];
+    let mut left = [0; Table::MAX_TASKS as usize];
     left[0] = 2;
     left[1] = 4;
     left[2] = 60001;
-    let mut budget = 3;
-    if kind == 0 {
-        budget = 0;
-    }
-    if kind == 4 {
-        budget = 1;
-    }
+    let budget = match kind {
+        0 => 0,
+        4 => 1,
+        _ => 3,
+    };
     Progress {
         left,
         server: ServerState {
@@ -125,151 +109,151 @@ fn returns() -> Returns {
     Returns { stretches, n: 2 }
 }
 
-fn state(kind: u32) -> State {
-    let table = table(kind);
-    let progress = progress(kind);
-    let queue = queue();
-    let returns = returns();
+// The state that the cases of a kind start from.
+pub fn state(kind: u32) -> State {
     State {
-        table,
-        progress,
-        queue,
-        returns,
+        table: table(kind),
+        progress: progress(kind),
+        queue: queue(),
+        returns: returns(),
     }
 }
 
-// A field that a struct does not have changes nothing, here and below.
-fn task_with(mut task: Task, letter: u8, value: u32) -> Task {
-    match letter {
-        b'f' => task.phase = value,
-        b'p' => task.period = value,
-        b'e' => task.exec = value,
-        b'D' => task.deadline = value,
-        _ => {}
-    }
-    task
+// A field of a state that is put to a value. It goes by a letter, since it is printed so, and by a slot where it stands in an array (0 where it does not):
+//   tasks     f phase, p period, e exec, D deadline (each with a slot), n how many are in use
+//   server    k kind, s place, P period, B budget
+//   progress  l left (with a slot), b budget, t tr, g begin, r nr, c clock
+//   queue     i id, w work, a arrival (each with a slot), q how many wait, F the figure of their work
+//   returns   S start, L length (each with a slot), h how many stretches are held
+#[derive(Clone, Copy)]
+pub struct Edit {
+    pub letter: char,
+    pub slot: usize,
+    pub value: u32,
 }
 
-fn server_with(mut server: Server, letter: u8, value: u32) -> Server {
-    match letter {
-        b'k' => server.kind = value,
-        b's' => server.place = value,
-        b'P' => server.period = value,
-        b'B' => server.budget = value,
-        _ => {}
+// A field put to a value.
+pub fn put(letter: char, slot: usize, value: u32) -> Edit {
+    Edit {
+        letter,
+        slot,
+        value,
     }
-    server
 }
 
-fn table_with(mut table: Table, letter: u8, slot: usize, value: u32) -> Table {
-    if Table::MAX_TASKS as usize <= slot {
-        return table;
-    }
-    let task = table.tasks[slot];
-    table.tasks[slot] = task_with(task, letter, value);
-    table.server = server_with(table.server, letter, value);
-    if letter == b'n' {
-        table.n = value;
-    }
-    table
-}
-
-fn server_state_with(mut server: ServerState, letter: u8, value: u32) -> ServerState {
-    match letter {
-        b'b' => server.budget = value,
-        b't' => server.sporadic.tr = value,
-        b'g' => server.sporadic.begin = value,
-        b'r' => server.sporadic.nr = value,
-        _ => {}
-    }
-    server
-}
-
-fn progress_with(mut progress: Progress, letter: u8, slot: usize, value: u32) -> Progress {
-    if Table::MAX_TASKS as usize <= slot {
-        return progress;
-    }
-    progress.server = server_state_with(progress.server, letter, value);
-    match letter {
-        b'l' => progress.left[slot] = value,
-        b'c' => progress.clock = value,
-        _ => {}
-    }
-    progress
-}
-
-fn request_with(mut request: Request, letter: u8, value: u32) -> Request {
-    match letter {
-        b'i' => request.id = value,
-        b'w' => request.work = value,
-        b'a' => request.arrival = value,
-        _ => {}
-    }
-    request
-}
-
-fn queue_with(mut queue: Queue, letter: u8, slot: usize, value: u32) -> Queue {
-    if Table::MAX_WAITING as usize <= slot {
-        return queue;
-    }
-    let request = queue.requests[slot];
-    queue.requests[slot] = request_with(request, letter, value);
-    if letter == b'q' {
-        queue.n = value;
-    }
-    let requests = queue.requests;
-    queue.backlog = work_of(requests, queue.n);
-    if letter == b'F' {
-        queue.backlog = value;
-    }
-    queue
-}
-
-// The work of the slots in use: each case has the figure that belongs to its queue, but for those that change the figure itself.
-fn work_of(requests: [Request; Table::MAX_WAITING as usize], n: u32) -> u32 {
-    let mut sum: u32 = 0;
-    let mut i: u32 = 0;
-    while i < Table::MAX_WAITING {
-        let request = requests[i as usize];
-        if i < n {
-            sum = lists::saturating_add(sum, request.work);
+impl Edit {
+    // A field that a struct does not have changes nothing, here and below. One function a struct: each has fields of its own.
+    fn edit_task(self, task: &mut Task) {
+        match self.letter {
+            'f' => task.phase = self.value,
+            'p' => task.period = self.value,
+            'e' => task.exec = self.value,
+            'D' => task.deadline = self.value,
+            _ => {}
         }
-        i += 1;
+    }
+
+    fn edit_server(self, server: &mut Server) {
+        match self.letter {
+            'k' => server.kind = self.value,
+            's' => server.place = self.value,
+            'P' => server.period = self.value,
+            'B' => server.budget = self.value,
+            _ => {}
+        }
+    }
+
+    fn edit_table(self, table: &mut Table) {
+        if let Some(task) = table.tasks.get_mut(self.slot) {
+            self.edit_task(task);
+        }
+        self.edit_server(&mut table.server);
+        if self.letter == 'n' {
+            table.n = self.value;
+        }
+    }
+
+    fn edit_server_state(self, server: &mut ServerState) {
+        match self.letter {
+            'b' => server.budget = self.value,
+            't' => server.sporadic.tr = self.value,
+            'g' => server.sporadic.begin = self.value,
+            'r' => server.sporadic.nr = self.value,
+            _ => {}
+        }
+    }
+
+    fn edit_left(self, left: &mut u32) {
+        if self.letter == 'l' {
+            *left = self.value;
+        }
+    }
+
+    fn edit_progress(self, progress: &mut Progress) {
+        if let Some(left) = progress.left.get_mut(self.slot) {
+            self.edit_left(left);
+        }
+        self.edit_server_state(&mut progress.server);
+        if self.letter == 'c' {
+            progress.clock = self.value;
+        }
+    }
+
+    fn edit_request(self, request: &mut Request) {
+        match self.letter {
+            'i' => request.id = self.value,
+            'w' => request.work = self.value,
+            'a' => request.arrival = self.value,
+            _ => {}
+        }
+    }
+
+    // Each case has the figure that belongs to its queue, but for those that change the figure itself.
+    fn edit_queue(self, queue: &mut Queue) {
+        if let Some(request) = queue.requests.get_mut(self.slot) {
+            self.edit_request(request);
+        }
+        if self.letter == 'q' {
+            queue.n = self.value;
+        }
+        queue.backlog = if self.letter == 'F' {
+            self.value
+        } else {
+            work_of(queue)
+        };
+    }
+
+    fn edit_stretch(self, stretch: &mut Stretch) {
+        match self.letter {
+            'S' => stretch.start = self.value,
+            'L' => stretch.length = self.value,
+            _ => {}
+        }
+    }
+
+    fn edit_returns(self, returns: &mut Returns) {
+        if let Some(stretch) = returns.stretches.get_mut(self.slot) {
+            self.edit_stretch(stretch);
+        }
+        if self.letter == 'h' {
+            returns.n = self.value;
+        }
+    }
+
+    // Puts the field of a state to its value.
+    pub fn apply(self, state: &mut State) {
+        self.edit_table(&mut state.table);
+        self.edit_progress(&mut state.progress);
+        self.edit_queue(&mut state.queue);
+        self.edit_returns(&mut state.returns);
+    }
+}
+
+// The work of the slots in use.
+fn work_of(queue: &Queue) -> u32 {
+    let mut sum: u32 = 0;
+    for request in queue.waiting() {
+        sum = sum.saturating_add(request.work);
     }
     sum
-}
-
-fn stretch_with(mut stretch: Stretch, letter: u8, value: u32) -> Stretch {
-    match letter {
-        b'S' => stretch.start = value,
-        b'L' => stretch.length = value,
-        _ => {}
-    }
-    stretch
-}
-
-fn returns_with(mut returns: Returns, letter: u8, slot: usize, value: u32) -> Returns {
-    if Returns::CAPACITY as usize <= slot {
-        return returns;
-    }
-    let stretch = returns.stretches[slot];
-    returns.stretches[slot] = stretch_with(stretch, letter, value);
-    if letter == b'h' {
-        returns.n = value;
-    }
-    returns
-}
-
-// The state with a field put to a value.
-pub fn state_with(mut state: State, letter: u8, slot: usize, value: u32) -> State {
-    state.table = table_with(state.table, letter, slot, value);
-    state.progress = progress_with(state.progress, letter, slot, value);
-    state.queue = queue_with(state.queue, letter, slot, value);
-    state.returns = returns_with(state.returns, letter, slot, value);
-    state
-}
-
-// The state that the cases of a kind start from, with a field put to a value.
-pub fn edited(kind: u32, letter: u8, slot: usize, value: u32) -> State {
-    state_with(state(kind), letter, slot, value)
 }

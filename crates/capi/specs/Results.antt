@@ -1,8 +1,6 @@
 -- Each answer as C reads it: document 01's figures (table/specs/Refusal, rules/specs/Figures) as numbers, with the state beside them.
 use Rattle.std.specs.Prelude.{ℕ, cond, List}
 use Rattle.lists.specs.Numbers.{bit_of}
-use Rattle.queue.specs.declared.Finish.{Finish}
-use Rattle.queue.specs.Queue.{FinishFigures, finish_figures}
 use Rattle.table.specs.declared.State.{State}
 use Rattle.table.specs.Refusal.{Figures}
 use Rattle.bounds.specs.declared.Admission.{Admission}
@@ -14,7 +12,6 @@ use Rattle.capi.specs.declared.AdmissionResult.{AdmissionResult}
 use Rattle.capi.specs.declared.MovedResult.{MovedResult}
 use Rattle.capi.specs.declared.TickResult.{TickResult}
 use Rattle.capi.specs.declared.WaitingResult.{WaitingResult}
-use Rattle.capi.specs.declared.Done.{Done}
 use Rattle.capi.specs.declared.boundary.CState.{CState}
 use Rattle.capi.specs.Boundary.{flags_fit, state_from, state_to}
 
@@ -72,15 +69,3 @@ waiting_at n work = record { number = n; work = work }
 -- of a state whose flags do not fit: 11, and no figure
 abbrev pub waiting_result : CState → Figures → ℕ → WaitingResult
 waiting_result s f work = cond (flags_fit s) (waiting_at f.number work) (waiting_at 11 0)
-
--- what a tick finished, as the code holds it
-abbrev pub done_by : Finish → Done
-done_by f = record { finished = (finish_figures f).finished; request = (finish_figures f).id; response = (finish_figures f).response }
-
--- back from what the code holds
-abbrev pub figures_by : Done → FinishFigures
-figures_by d = record { finished = d.finished; id = d.request; response = d.response }
-
--- the figures of a tick that ran
-abbrev pub ran_by : Entry → Done → TickFigures
-ran_by e d = record { number = 0; entry = e; finish = figures_by d }

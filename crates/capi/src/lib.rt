@@ -3,18 +3,17 @@
 #![tactic(auto)]
 
 ghost use Rattle.std.specs.Prelude.{◌≡◌, length};
-ghost use Rattle.table.specs.Refusal.{value, number_of, value_of};
+ghost use Rattle.table.specs.Refusal.{number_of, value_of};
 ghost use Rattle.table.specs.State.{fresh_state, table_figures};
-ghost use Rattle.bounds.specs.Admission.{admission_call};
-ghost use Rattle.rules.specs.Calls.{request_call, tick_call, run_call, waiting_call};
+ghost use Rattle.bounds.specs.Admission.{admission_of};
+ghost use Rattle.rules.specs.Calls.{request_call, tick_call, run_call, waiting_call, told};
 ghost use Rattle.rules.specs.Figures.{request_figures, run_figures, answer_figures, tick_figures, waiting_figures};
 ghost use Rattle.capi.specs.Boundary.{state_from, handed_back};
-ghost use Rattle.capi.specs.Results.{version, set_up_result, admission_result, moved_at, moved_result, lent_after, tick_at, tick_result, waiting_result, done_by, ran_by};
+ghost use Rattle.capi.specs.Results.{version, set_up_result, admission_result, moved_at, moved_result, lent_after, tick_at, tick_result, waiting_result};
 
 pub use boundary::CState;
-use queue::Finish;
-use rules::{Entry, Moved, TickAnswer};
-use table::{Checked, Refusal, Table};
+use rules::{Entry, Occupant, Ticked};
+use table::{Refusal, State, Table};
 
 mod boundary;
 
@@ -22,10 +21,11 @@ mod boundary;
 const VERSION: u32 = 5;
 
 // ---- what a call answers: number is 0 or document 01's number of the refusal; index belongs to refusal 2
+// The C interface: a refusal is a number there, each call has a function and a struct of its own, and tables and states go by value.
 
 // Of set-up.
 #[repr(C)]
-#[derive(Clone, Copy)]
+#[derive(Debug, Clone, Copy, PartialEq, Eq)]
 pub struct SetUpResult {
     pub number: u32,
     pub index: u32,
@@ -34,7 +34,7 @@ pub struct SetUpResult {
 
 // Of admission. admitted is 1 or 0.
 #[repr(C)]
-#[derive(Clone, Copy)]
+#[derive(Debug, Clone, Copy, PartialEq, Eq)]
 pub struct AdmissionResult {
     pub number: u32,
     pub index: u32,
@@ -45,16 +45,17 @@ pub struct AdmissionResult {
 
 // Of a request and of a run.
 #[repr(C)]
-#[derive(Clone, Copy)]
+#[derive(Debug, Clone, Copy, PartialEq, Eq)]
 pub struct MovedResult {
     pub number: u32,
     pub state: CState,
 }
 
+// The C interface: C has no Option, so `finished` is a flag beside its two numbers, and no generic struct, so this one stands beside MovedResult.
 // Of a tick. kind, id and drops are the tick's record. finished is 1 where the tick finished a request: then request is its id and response
 // its response; they are 0 otherwise. Of a refused tick all but number and state is 0.
 #[repr(C)]
-#[derive(Clone, Copy)]
+#[derive(Debug, Clone, Copy, PartialEq, Eq)]
 pub struct TickResult {
     pub number: u32,
     pub kind: u32,
@@ -68,138 +69,68 @@ pub struct TickResult {
 
 // Of the waiting call. work: the ticks of work that wait; 0 where the call refuses.
 #[repr(C)]
-#[derive(Clone, Copy)]
+#[derive(Debug, Clone, Copy, PartialEq, Eq)]
 pub struct WaitingResult {
     pub number: u32,
     pub work: u32,
 }
 
-// The last three numbers of a tick.
-#[derive(Clone, Copy)]
-struct Done {
-    finished: u32,
-    request: u32,
-    response: u32,
-}
-
 // ---- enums as numbers
 
-// The index of a bad task; 0 of every other refusal.
-fn value_of_refusal(refusal: Refusal) -> u32
-    ensures { result ≡ value refusal }
-{
-    match refusal {
-        Refusal::TaskCount => 0,
-        Refusal::BadTask(i) => i,
-        Refusal::BadServer => 0,
-        Refusal::BadWork => 0,
-        Refusal::QueueFull => 0,
-        Refusal::ClockSpent => 0,
-        Refusal::ShortRecord => 0,
-        Refusal::UnfitState => 0,
-    }
-}
-
 // The number of a refusal; 0 where there is none.
-fn number_of(answer: Checked) -> u32
+fn number_of(answer: Result<(), Refusal>) -> u32
     ensures { result ≡ number_of answer }
 {
     match answer {
-        Checked::Passed => 0,
-        Checked::Refused(refusal) => refusal.number(),
+        Ok(()) => 0,
+        Err(refusal) => refusal.number(),
     }
 }
 
-// The index of refusal 2; 0 where there is none.
-fn value_of(answer: Checked) -> u32
+// The index of refusal 2; 0 of every other answer.
+fn value_of(answer: Result<(), Refusal>) -> u32
     ensures { result ≡ value_of answer }
 {
     match answer {
-        Checked::Passed => 0,
-        Checked::Refused(refusal) => value_of_refusal(refusal),
-    }
-}
-
-// What a tick finished.
-fn done_by(finish: Finish) -> Done
-    ensures { result ≡ done_by finish }
-{
-    match finish {
-        Finish::Nothing => Done {
-            finished: 0,
-            request: 0,
-            response: 0,
-        },
-        Finish::Finished { id, response } => Done {
-            finished: 1,
-            request: id,
-            response,
-        },
+        Err(Refusal::BadTask(i)) => i,
+        _ => 0,
     }
 }
 
 // ---- answers as numbers
 
-// A request's or a run's answer, of the state that was given.
-fn moved_result(state: CState, moved: Moved) -> MovedResult
-    ensures { result ≡ moved_at (number_of moved.answer) (handed_back state moved.state) }
+// A request's or a run's answer, of the state that was given, and the state after it.
+fn moved_result(state: &CState, answer: Result<(), Refusal>, next: &State) -> MovedResult
+    ensures { result ≡ moved_at (number_of answer) (handed_back state.now next.now) }
 {
-    let answer = moved.answer;
-    let next = moved.state;
     MovedResult {
         number: number_of(answer),
         state: state.handed_back(next),
     }
 }
 
-// The answer of a tick that ran.
-fn ran_result(ran: Entry, done: Done, state: CState) -> TickResult
-    ensures { result ≡ tick_at (ran_by ran done) state }
+// A tick's answer, of the state that was given, and the state after it. The state is written once, which keeps the call's stack small.
+fn tick_result(state: &CState, answer: Result<Ticked, Refusal>, next: &State) -> TickResult
+    ensures { result ≡ tick_at (answer_figures answer) (handed_back state.now next.now) }
 {
+    let (number, ran, finished) = match answer {
+        Ok(ticked) => (0, ticked.entry(), ticked.finished),
+        Err(refusal) => (refusal.number(), Occupant::Idle.entry(0), None),
+    };
+    let (finished, request, response) = match finished {
+        Some(done) => (1, done.id, done.response),
+        None => (0, 0, 0),
+    };
     TickResult {
-        number: 0,
+        number,
         kind: ran.kind,
         id: ran.id,
         drops: ran.drops,
-        finished: done.finished,
-        request: done.request,
-        response: done.response,
-        state,
+        finished,
+        request,
+        response,
+        state: state.handed_back(next),
     }
-}
-
-// A tick's answer, whether it ran or not.
-fn tick_result_by(answer: TickAnswer, state: CState) -> TickResult
-    ensures { result ≡ tick_at (answer_figures answer) state }
-{
-    // the state is written once, and not in each arm: to keep the stack of the C call for a tick small
-    let mut number: u32 = 0;
-    let mut ran = Entry {
-        kind: 0,
-        id: 0,
-        drops: 0,
-    };
-    let mut done = Done {
-        finished: 0,
-        request: 0,
-        response: 0,
-    };
-    match answer {
-        TickAnswer::Ran {
-            occupant,
-            drops,
-            finish,
-        } => {
-            ran = occupant.entry(drops);
-            done = done_by(finish);
-        }
-        TickAnswer::Refused(refusal) => {
-            number = refusal.number();
-        }
-    }
-    let mut result = ran_result(ran, done, state);
-    result.number = number;
-    result
 }
 
 // ---- the calls
@@ -211,33 +142,51 @@ pub fn pilqandur_version() -> u32
     VERSION
 }
 
+// The number of a table's refusal, and the index of refusal 2; both are 0 where it passes.
+// inline(never): to keep the stack of the C call for set-up small.
+#[inline(never)]
+fn check_numbers(table: &Table) -> (u32, u32)
+    ensures number { result.0 ≡ (table_figures table.now).number }
+    ensures index { result.1 ≡ (table_figures table.now).value }
+{
+    let answer = table.check();
+    (number_of(answer), value_of(answer))
+}
+
 // Set-up: the fresh state of a table, or refusal 1, 2 or 3.
 pub fn pilqandur_set_up(table: Table) -> SetUpResult
     ensures { result ≡ set_up_result (table_figures table) (fresh_state table) }
 {
-    let up = table.set_up();
-    let answer = up.answer;
-    let state = up.state;
+    let (number, index) = check_numbers(&table);
     SetUpResult {
-        number: number_of(answer),
-        index: value_of(answer),
-        state: boundary::state_to(state),
+        number,
+        index,
+        state: CState::from(&table.fresh()),
     }
 }
 
 // Admission: the bounds of a table, or refusal 1, 2 or 3.
 pub fn pilqandur_admit(table: Table) -> AdmissionResult
-    ensures { result ≡ admission_result (table_figures table) (admission_call table) }
+    ensures { result ≡ admission_result (table_figures table) (admission_of table) }
 {
-    let a = admission::admit(table);
-    let answer = a.answer;
-    let bounds = a.bounds;
-    AdmissionResult {
-        number: number_of(answer),
-        index: value_of(answer),
-        bounds,
-        serverbound: a.serverbound,
-        admitted: lists::bit(a.admitted),
+    match admission::admit(&table) {
+        Ok(admission) => {
+            let bounds = admission.bounds;
+            AdmissionResult {
+                number: 0,
+                index: 0,
+                bounds,
+                serverbound: admission.serverbound,
+                admitted: u32::from(admission.admitted),
+            }
+        }
+        Err(refusal) => AdmissionResult {
+            number: refusal.number(),
+            index: value_of(Err(refusal)),
+            bounds: [0; Table::MAX_TASKS as usize],
+            serverbound: 0,
+            admitted: 0,
+        },
     }
 }
 
@@ -245,36 +194,39 @@ pub fn pilqandur_admit(table: Table) -> AdmissionResult
 pub fn pilqandur_request(state: CState, id: u32, work: u32) -> MovedResult
     ensures { result ≡ moved_result state (request_figures (state_from state) work) (request_call (state_from state) id work).state }
 {
-    let moved = scheduler::request(state.taken(), id, work);
-    moved_result(state, moved)
+    let mut moved = state.taken();
+    let answer = scheduler::request(&mut moved, id, work);
+    moved_result(&state, answer, &moved)
 }
 
 // One tick, or refusal 11 or 6.
 pub fn pilqandur_tick(state: CState) -> TickResult
     ensures { result ≡ tick_result state (tick_figures (state_from state)) (tick_call (state_from state)).state }
 {
-    let ticked = scheduler::tick(state.taken());
-    let answer = ticked.answer;
-    let next = ticked.state;
-    tick_result_by(answer, state.handed_back(next))
+    let mut moved = state.taken();
+    let answer = scheduler::tick(&mut moved);
+    tick_result(&state, answer, &moved)
 }
 
 // k ticks, the record of each in the lent list, or refusal 11, 6 or 10. The list is lent on.
 pub fn pilqandur_run(state: CState, k: u32, entries: &mut [Entry]) -> MovedResult
-    ensures { (result ≡ moved_result state (run_figures (state_from state) k (length entries.old)) (run_call (state_from state) k (length entries.old)).state) × (entries.new ≡ lent_after state k entries.old) }
+    ensures answer { result ≡ moved_result state (run_figures (state_from state) k (length entries.old)) (run_call (state_from state) k (length entries.old)).state }
+    ensures record { entries.new ≡ lent_after state k entries.old }
 {
-    let moved = scheduler::run(state.taken(), k, entries);
-    moved_result(state, moved)
+    let mut moved = state.taken();
+    let answer = scheduler::run(&mut moved, k, entries);
+    moved_result(&state, answer, &moved)
 }
 
 // The ticks of work that wait, as the state holds them, or refusal 11. It moves no state, so none comes back.
 pub fn pilqandur_waiting(state: CState) -> WaitingResult
-    ensures { result ≡ waiting_result state (waiting_figures (state_from state)) (waiting_call (state_from state)).work }
+    ensures { result ≡ waiting_result state (waiting_figures (state_from state)) (told (waiting_call (state_from state))) }
 {
-    let waiting = scheduler::waiting(state.taken());
-    let answer = waiting.answer;
-    WaitingResult {
-        number: number_of(answer),
-        work: waiting.work,
+    match scheduler::waiting(&state.taken()) {
+        Ok(work) => WaitingResult { number: 0, work },
+        Err(refusal) => WaitingResult {
+            number: refusal.number(),
+            work: 0,
+        },
     }
 }

@@ -1,10 +1,11 @@
-// The calls as C and Rust callers link them: the crate `capi` under C's names, with the same clauses. include/pilqandur.h is the other side.
+// The calls as C and Rust callers link them: the crate `capi` under C's names, with the same clauses,
+// since a static library exports its own functions alone. include/pilqandur.h is the other side.
 #![tactic(auto)]
 
 ghost use Rattle.std.specs.Prelude.{◌≡◌, length};
 ghost use Rattle.table.specs.State.{fresh_state, table_figures};
-ghost use Rattle.bounds.specs.Admission.{admission_call};
-ghost use Rattle.rules.specs.Calls.{request_call, tick_call, run_call, waiting_call};
+ghost use Rattle.bounds.specs.Admission.{admission_of};
+ghost use Rattle.rules.specs.Calls.{request_call, tick_call, run_call, waiting_call, told};
 ghost use Rattle.rules.specs.Figures.{request_figures, run_figures, tick_figures, waiting_figures};
 ghost use Rattle.capi.specs.Boundary.{state_from};
 ghost use Rattle.capi.specs.Results.{version, set_up_result, admission_result, moved_result, lent_after, tick_result, waiting_result};
@@ -32,7 +33,7 @@ pub extern "C" fn pilqandur_set_up(table: Table) -> SetUpResult
 // Admission: the bounds of a table, or refusal 1, 2 or 3.
 #[unsafe(no_mangle)]
 pub extern "C" fn pilqandur_admit(table: Table) -> AdmissionResult
-    ensures { result ≡ admission_result (table_figures table) (admission_call table) }
+    ensures { result ≡ admission_result (table_figures table) (admission_of table) }
 {
     capi::pilqandur_admit(table)
 }
@@ -56,7 +57,8 @@ pub extern "C" fn pilqandur_tick(state: CState) -> TickResult
 // k ticks, the record of each in the lent list, or refusal 11, 6 or 10. The list is lent on.
 #[unsafe(no_mangle)]
 pub extern "C" fn pilqandur_run(state: CState, k: u32, entries: &mut [Entry]) -> MovedResult
-    ensures { (result ≡ moved_result state (run_figures (state_from state) k (length entries.old)) (run_call (state_from state) k (length entries.old)).state) × (entries.new ≡ lent_after state k entries.old) }
+    ensures answer { result ≡ moved_result state (run_figures (state_from state) k (length entries.old)) (run_call (state_from state) k (length entries.old)).state }
+    ensures record { entries.new ≡ lent_after state k entries.old }
 {
     capi::pilqandur_run(state, k, entries)
 }
@@ -64,7 +66,7 @@ pub extern "C" fn pilqandur_run(state: CState, k: u32, entries: &mut [Entry]) ->
 // The ticks of work that wait, as the state holds them, or refusal 11. It moves no state, so none comes back.
 #[unsafe(no_mangle)]
 pub extern "C" fn pilqandur_waiting(state: CState) -> WaitingResult
-    ensures { result ≡ waiting_result state (waiting_figures (state_from state)) (waiting_call (state_from state)).work }
+    ensures { result ≡ waiting_result state (waiting_figures (state_from state)) (told (waiting_call (state_from state))) }
 {
     capi::pilqandur_waiting(state)
 }

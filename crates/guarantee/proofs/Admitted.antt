@@ -11,7 +11,7 @@ use Rattle.table.specs.Limits.{max_tasks}
 use Rattle.table.specs.Facts.{TaskLimits, ServerLimits, TableFacts, table-facts, task-used}
 use Rattle.table.specs.Model.{TaskSet, task_set_of, no_task}
 use Rattle.bounds.specs.Demand.{own_bound, server_bound_by, server_bound, server_admitted}
-use Rattle.bounds.specs.Admission.{admission_call}
+use Rattle.bounds.specs.Admission.{admission_of}
 use Rattle.bounds.proofs.Bounds.{Bound, OwnBound, own_is, Admits, admits}
 use Rattle.rules.specs.Tick.{kind_at}
 use Rattle.guarantee.proofs.Items.{server, items_demand}
@@ -58,7 +58,7 @@ pub record Good (t : Table) : Type 0 where
   pub few : t.n ≤ max_tasks
   pub sound : SoundAll (items (task_set_of t))
   pub mix : Plain (items (task_set_of t)) ⊎ Sole (items (task_set_of t))
-  pub tasks : (i : ℕ) → i < length (task_set_of t).tasks → InTime (task_set_of t) i (get_or (admission_call t).bounds i 0)
+  pub tasks : (i : ℕ) → i < length (task_set_of t).tasks → InTime (task_set_of t) i (get_or (admission_of t).bounds i 0)
   pub plain : exact (kind_at (task_set_of t)) ≡ true → Plain (items (task_set_of t))
   pub own : exact (kind_at (task_set_of t)) ≡ true → OwnBound (task_set_of t) (own_bound (task_set_of t))
 
@@ -74,7 +74,7 @@ in_time p i R h f b =
     go (yes q) = omega (arith, b.below q, pos-below p.server.place p.tasks (server (kind_at p) p.server) i R h q)
     go (no q) = omega (arith, b.meets, pos-above p.server.place p.tasks (server (kind_at p) p.server) i R h (omega arith))
 
-pub good : (t : Table) → (admission_call t).admitted ≡ true → Good t
+pub good : (t : Table) → (admission_of t).admitted ≡ true → Good t
 good t e =
     let a : Admits t = admits t e in
     let f : TableFacts t = table-facts t a.passes in
@@ -83,7 +83,7 @@ good t e =
       sound = insert-sound p.server.place p.tasks (server (kind_at p) p.server) no_task (λ i h. (task-early (task_of p i) (task-used t i f h)).0)
           (server-sound t.server t.n f.server);
       mix = mixed (alone (kind_at p)) refl;
-      tasks = λ i h. in_time p i (get_or (admission_call t).bounds i 0) h (task-used t i f h) (a.tasks i no_task h);
+      tasks = λ i h. in_time p i (get_or (admission_of t).bounds i 0) h (task-used t i f h) (a.tasks i no_task h);
       plain = λ q. insert-plain p.server.place p.tasks (kind_at p) p.server (exact-plain (kind_at p) q);
       own = λ q. own_is p (own-some (kind_at p) p q refl a.server);
     }

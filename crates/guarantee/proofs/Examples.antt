@@ -1,16 +1,15 @@
 -- The guarantee's hypothesis can be met under each kind of server by a table whose requests load it, and a table that is not admitted
 -- can drop. Of request 2/13: what tasks above the server do not notice under each kind, and that a task below does. Of request 8/13: the figure
 -- after a list. All by computation.
-use Rattle.std.specs.Prelude.{ℕ, zero, suc, ◌+◌, ◌-◌, ◌≤◌, ◌<◌, ◌≡◌, refl, Bool, true, false, cond, ◌&&◌, List, [], ◌∷◌, map, ltb, length, replicate}
+use Rattle.std.specs.Prelude.{ℕ, zero, suc, ◌+◌, ◌-◌, ◌≤◌, ◌<◌, ◌≡◌, refl, Bool, true, false, cond, ◌&&◌, List, [], ◌∷◌, map, ltb, length, replicate, Err}
 use Rattle.std.proofs.Common.{arith, ap, ltb-true}
 use Rattle.lists.specs.Lists.{overlay, all}
 use Rattle.lists.specs.Stretch.{stretch, how_many, tally}
 use Rattle.table.specs.declared.Table.{Table}
-use Rattle.table.specs.declared.Checked.{Checked}
 use Rattle.table.specs.declared.Refusal.{Refusal}
-use Rattle.bounds.specs.Admission.{admission_call}
+use Rattle.bounds.specs.Admission.{admission_of}
 use Rattle.rules.specs.declared.Entry.{Entry}
-use Rattle.rules.specs.Calls.{waiting_call}
+use Rattle.rules.specs.Calls.{waiting_call, told}
 use Rattle.rules.specs.Play.{task, server, table}
 use Rattle.guarantee.specs.Calls.{Call, request, tick, run, RanTick, ticks, tick_at, clock_after, has_task, has_request}
 use Rattle.guarantee.specs.Guarantee.{bound_at, Loaded, by_budget_in, Guarantee}
@@ -37,10 +36,10 @@ load = request 7 40 ∷ request 8 0 ∷ tick ∷ run 9 (lent 4) ∷ run 9 (lent 
 -- ---- each kind: admitted, with these bounds; fifteen ticks run; so many of them serve a request, and so many the row
 abbrev loaded : ℕ → List ℕ
 loaded kind =
-    bound_at (marked kind) 0 ∷ (admission_call (marked kind)).serverbound ∷ clock_after (marked kind) load ∷ length (ticks (marked kind) load)
+    bound_at (marked kind) 0 ∷ (admission_of (marked kind)).serverbound ∷ clock_after (marked kind) load ∷ length (ticks (marked kind) load)
     ∷ how_many has_request (ticks (marked kind) load) ∷ how_many (has_task 0) (ticks (marked kind) load) ∷ []
 
-admitted-each : map (λ (k : ℕ). (admission_call (marked k)).admitted) (0 ∷ 1 ∷ 2 ∷ 3 ∷ 4 ∷ []) ≡ true ∷ true ∷ true ∷ true ∷ true ∷ []
+admitted-each : map (λ (k : ℕ). (admission_of (marked k)).admitted) (0 ∷ 1 ∷ 2 ∷ 3 ∷ 4 ∷ []) ≡ true ∷ true ∷ true ∷ true ∷ true ∷ []
 unfolding overlay
 admitted-each = refl
 
@@ -116,7 +115,7 @@ tight = one 5 2 0 5 2
 abbrev late : List Call
 late = run 3 (lent 3) ∷ request 7 4 ∷ run 6 (lent 6) ∷ []
 
-refused : (admission_call tight).admitted ≡ false
+refused : (admission_of tight).admitted ≡ false
 unfolding overlay
 refused = refl
 
@@ -148,7 +147,7 @@ each f = map (λ (k : ℕ). f (crowded k)) (0 ∷ 1 ∷ 2 ∷ 3 ∷ 4 ∷ [])
 abbrev alike : {A : Type 0} → A → List A
 alike a = each (λ _. a)
 
-not_admitted : each (λ t. (admission_call t).admitted) ≡ alike false
+not_admitted : each (λ t. (admission_of t).admitted) ≡ alike false
 unfolding overlay
 not_admitted = refl
 
@@ -213,13 +212,13 @@ shorter-ends = (refl, refl)
 abbrev counts : ℕ → List ℕ
 counts kind =
     accepted_work (marked kind) load ∷ how_many has_request (ticks (marked kind) load) ∷ sum_after (marked kind) load
-    ∷ (waiting_call (state_after_all (marked kind) load)).work ∷ []
+    ∷ told (waiting_call (state_after_all (marked kind) load)) ∷ []
 
 figure_each : map counts (0 ∷ 1 ∷ 2 ∷ 3 ∷ 4 ∷ []) ≡ replicate 5 (41 ∷ 11 ∷ 30 ∷ 30 ∷ [])
 unfolding overlay
 figure_each = refl
 
 -- of a table that set-up refuses nothing waits, and the call refuses
-refused-table : ((waiting_call (state_after_all (one 7 2 0 5 2) load)).answer ≡ Checked.Refused Refusal.UnfitState) × (sum_after (one 7 2 0 5 2) load ≡ 0)
+refused-table : (waiting_call (state_after_all (one 7 2 0 5 2) load) ≡ Err Refusal.UnfitState) × (sum_after (one 7 2 0 5 2) load ≡ 0)
 unfolding overlay
 refused-table = (refl, refl)

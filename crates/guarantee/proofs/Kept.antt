@@ -6,7 +6,7 @@ use Rattle.server.specs.Kind.{kind_of}
 use Rattle.table.specs.declared.Table.{Table}
 use Rattle.table.specs.Limits.{max_tasks}
 use Rattle.table.specs.Model.{task_set_of, model_of}
-use Rattle.bounds.specs.Admission.{admission_call}
+use Rattle.bounds.specs.Admission.{admission_of}
 use Rattle.rules.specs.Tick.{by_budget, turn_at}
 use Rattle.guarantee.specs.Calls.{Call, RanTick, state_before}
 use Rattle.guarantee.specs.Guarantee.{tasks_of, exact, by_budget_in, Guarantee}
@@ -21,7 +21,7 @@ use Rattle.guarantee.proofs.Waiting as waiting
 use Rattle.guarantee.proofs.Quiet.{accepted-is, drops-are, same-ticks, same-drops}
 
 -- If the admission call admits the table, every list of calls keeps the guarantee.
-pub guarantee : (t : Table) → (admission_call t).admitted ≡ true → (calls : List Call) → Guarantee t calls
+pub guarantee : (t : Table) → (admission_of t).admitted ≡ true → (calls : List Call) → Guarantee t calls
 guarantee t e calls = kept t (good t e) calls
 
 -- What demand 3 counts, a request as occupant with b above 0 at step 4, is what the rules call a turn by the budget.

@@ -1,16 +1,15 @@
 -- From ticks to lists of calls. The ticks that ran begin at a list of states; each is the state after the tick before it, but for
 -- requests presented in between. What the calls report is what the tick's definition says at these states.
-use Rattle.std.specs.Prelude.{ℕ, zero, suc, ◌+◌, ◌-◌, ◌<◌, ◌≤◌, ◌≡◌, refl, Bool, true, false, cond, List, [], ◌∷◌, ◌++◌, map, length, take, get_or, leb}
+use Rattle.std.specs.Prelude.{ℕ, zero, suc, ◌+◌, ◌-◌, ◌<◌, ◌≤◌, ◌≡◌, refl, Bool, true, false, cond, List, [], ◌∷◌, ◌++◌, map, length, take, get_or, leb, Err, None, Ok, Result, Some}
 use Rattle.std.proofs.Common.{arith, sym, ap, ◌∙◌, length-append, length-take, le-leb}
 use Rattle.lists.specs.Lists.{overlay, zip_with, overlay_take, take_overlay}
 use Rattle.queue.specs.declared.Request.{Request}
-use Rattle.queue.specs.declared.Finish.{Finish}
 use Rattle.queue.specs.Queue.{waiting_of, waits, presented, served, finished}
 use Rattle.queue.specs.Laws.{waiting_with}
 use Rattle.server.specs.Returns.{max_held, held_of}
 use Rattle.server.proofs.Written.{same-reread}
+use Rattle.table.specs.declared.Refusal.{Refusal}
 use Rattle.table.specs.declared.State.{State}
-use Rattle.table.specs.declared.Checked.{Checked}
 use Rattle.table.specs.Refusal.{passed}
 use Rattle.table.specs.Model.{task_set_of, model_of, written}
 use Rattle.rules.specs.declared.Entry.{Entry}
@@ -32,7 +31,7 @@ served-takes t [] = refl
 served-takes t (r ∷ q) = go (leb r.work 1)
   where
     go : (b : Bool) → length (cond b q (record { id = r.id; work = r.work - 1; arrival = r.arrival } ∷ q)) ≡
-        suc (length q) - finishes (cond b (Finish.Finished r.id (t + 1 - r.arrival)) Finish.Nothing)
+        suc (length q) - finishes (cond b (Some (record { id = r.id; response = t + 1 - r.arrival })) None)
     go true = omega arith
     go false = omega arith
 
@@ -86,11 +85,11 @@ reported (request id work ∷ cs) s = go (passed (request_check s work)) (λ v. 
     go false ih = ih s
 reported (Call.tick ∷ cs) s = go (ticks_check s 1) (λ v. reported cs v)
   where
-    go : (c : Checked) → ((v : State) → ticks_from (queued v) (events v cs) ≡ map ran_at (starts_all v cs)) →
+    go : (c : Result Unit Refusal) → ((v : State) → ticks_from (queued v) (events v cs) ≡ map ran_at (starts_all v cs)) →
         ticks_from (queued s) (tick_events (tick_by c s).answer ++ events (tick_by c s).state cs)
         ≡ map ran_at (cond (passed c) (s ∷ []) [] ++ starts_all (tick_by c s).state cs)
-    go Checked.Passed ih = report s (events (state_after s) cs) (starts_all (state_after s) cs) (ih (state_after s))
-    go (Checked.Refused r) ih = ih s
+    go (Ok tt) ih = report s (events (state_after s) cs) (starts_all (state_after s) cs) (ih (state_after s))
+    go (Err r) ih = ih s
 reported (run k lent ∷ cs) s = go (passed (run_check s k (length lent))) (λ v. reported cs v)
   where
     go : (b : Bool) → ((v : State) → ticks_from (queued v) (events v cs) ≡ map ran_at (starts_all v cs)) →
@@ -158,10 +157,10 @@ linked (request id work ∷ cs) s = go (passed (request_check s work)) (λ v. li
     go false ih = ih s
 linked (Call.tick ∷ cs) s = go (ticks_check s 1) (λ v. linked cs v)
   where
-    go : (c : Checked) → ((v : State) → Linked v (starts_all v cs) (final v cs)) →
+    go : (c : Result Unit Refusal) → ((v : State) → Linked v (starts_all v cs) (final v cs)) →
         Linked s (cond (passed c) (s ∷ []) [] ++ starts_all (tick_by c s).state cs) (final (tick_by c s).state cs)
-    go Checked.Passed ih = (behind_self s, ih (state_after s))
-    go (Checked.Refused r) ih = ih s
+    go (Ok tt) ih = (behind_self s, ih (state_after s))
+    go (Err r) ih = ih s
 linked (run k lent ∷ cs) s = go (passed (run_check s k (length lent))) (λ v. linked cs v)
   where
     go : (b : Bool) → ((v : State) → Linked v (starts_all v cs) (final v cs)) →

@@ -1,12 +1,11 @@
 -- Tasks above the server do not notice requests: from runs of models (Above) to lists of calls. On an unfit state every call is refused, so
 -- a table of more tasks than slots runs no tick.
-use Rattle.std.specs.Prelude.{ℕ, zero, suc, ◌≤◌, ◌<◌, ◌≡◌, refl, Bool, true, false, cond, List, [], ◌∷◌, ◌++◌, length, get_or}
+use Rattle.std.specs.Prelude.{ℕ, zero, suc, ◌≤◌, ◌<◌, ◌≡◌, refl, Bool, true, false, cond, List, [], ◌∷◌, ◌++◌, length, get_or, Err, Result}
 use Rattle.std.proofs.Common.{arith, sym, ap, ap₂, ◌∙◌, length-append}
 use Rattle.lists.specs.Stretch.{tally, tally_zip}
 use Rattle.table.specs.declared.Table.{Table}
 use Rattle.table.specs.declared.State.{State}
 use Rattle.table.specs.declared.Refusal.{Refusal}
-use Rattle.table.specs.declared.Checked.{Checked}
 use Rattle.table.specs.Refusal.{passed}
 use Rattle.table.specs.Limits.{max_tasks}
 use Rattle.table.specs.Facts.{table-facts, fit-facts}
@@ -46,18 +45,18 @@ accepted-long (c ∷ cs) s =
 
 -- ---- on an unfit state every call is refused
 module _ (s : State) (e : fit s ≡ false) where
-  unfit : (rest : Checked) → unless (fit s) Refusal.UnfitState rest ≡ Checked.Refused Refusal.UnfitState
+  unfit : (rest : Result Unit Refusal) → unless (fit s) Refusal.UnfitState rest ≡ Err Refusal.UnfitState
   unfit rest = ap (λ (b : Bool). unless b Refusal.UnfitState rest) e
 
   stays : (c : Call) → after s c ≡ s
-  stays (request id work) = ap (λ (c : Checked). cond (passed c) (written s (asked id work (model_of s))) s) (unfit _)
-  stays tick = ap (λ (c : Checked). (tick_by c s).state) (unfit _)
-  stays (run k lent) = ap (λ (c : Checked). cond (passed c) (run_state k s) s) (unfit _)
+  stays (request id work) = ap (λ (c : Result Unit Refusal). cond (passed c) (written s (asked id work (model_of s))) s) (unfit _)
+  stays tick = ap (λ (c : Result Unit Refusal). (tick_by c s).state) (unfit _)
+  stays (run k lent) = ap (λ (c : Result Unit Refusal). cond (passed c) (run_state k s) s) (unfit _)
 
   none : (c : Call) → starts s c ≡ []
   none (request id work) = refl
-  none tick = ap (λ (c : Checked). cond (passed c) (s ∷ []) []) (unfit _)
-  none (run k lent) = ap (λ (c : Checked). cond (passed c) (run_starts k s) []) (unfit _)
+  none tick = ap (λ (c : Result Unit Refusal). cond (passed c) (s ∷ []) []) (unfit _)
+  none (run k lent) = ap (λ (c : Result Unit Refusal). cond (passed c) (run_starts k s) []) (unfit _)
 
   stuck : (calls : List Call) → starts_all s calls ≡ []
   stuck [] = refl

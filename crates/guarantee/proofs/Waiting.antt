@@ -1,15 +1,15 @@
 -- The work that waits, over lists of calls. A tick of any state whose figure is the sum over its queue leaves it so, and takes one off exactly
 -- where its entry says a request; so does each accepted call, and a refused one hands the state on.
-use Rattle.std.specs.Prelude.{ℕ, zero, suc, ◌+◌, ◌-◌, ◌≤◌, ◌≡◌, refl, Bool, true, false, cond, List, [], ◌∷◌, ◌++◌, map, length}
+use Rattle.std.specs.Prelude.{ℕ, zero, suc, ◌+◌, ◌-◌, ◌≤◌, ◌≡◌, refl, Bool, true, false, cond, List, [], ◌∷◌, ◌++◌, map, length, Err, Ok, Result}
 use Rattle.std.proofs.Common.{arith, sym, ap, subst, length-take}
 use Rattle.lists.specs.Numbers.{bit_of}
 use Rattle.lists.specs.Stretch.{how_many, count_cons}
 use Rattle.queue.specs.declared.Request.{Request}
 use Rattle.queue.specs.Queue.{max_waiting, max_backlog, waiting_work, waiting_of, requests_fit, presented}
 use Rattle.queue.specs.Laws.{waiting_with, presented_length, fit-later, fit-presented, presented-work, some-work, most_work_lem}
+use Rattle.table.specs.declared.Refusal.{Refusal}
 use Rattle.table.specs.declared.Table.{Table}
 use Rattle.table.specs.declared.State.{State}
-use Rattle.table.specs.declared.Checked.{Checked}
 use Rattle.table.specs.Limits.{max_tasks}
 use Rattle.table.specs.Refusal.{passed}
 use Rattle.table.specs.Model.{task_set_of, model_of, written}
@@ -124,13 +124,13 @@ balance (request id work ∷ cs) s f = go (passed (request_check s work)) refl (
     go false e on = let h = on s f in (h.0, omega (arith, h.1))
 balance (Call.tick ∷ cs) s f = go (ticks_check s 1) (balance cs)
   where
-    go : (c : Checked) → ((v : State) → Figured v → Goes (final v cs) v.queue.backlog (given (starts_all v cs)) (work_from v cs)) →
+    go : (c : Result Unit Refusal) → ((v : State) → Figured v → Goes (final v cs) v.queue.backlog (given (starts_all v cs)) (work_from v cs)) →
         let v : State = (tick_by c s).state in
         Goes (final v cs) s.queue.backlog (given (cond (passed c) (s ∷ []) [] ++ starts_all v cs)) (0 + work_from v cs)
-    go Checked.Passed on =
+    go (Ok tt) on =
         let h = on (state_after s) (tick-figured s f) in
         (h.0, omega (arith, h.1, given_cons s (starts_all (state_after s) cs), tick-takes s f))
-    go (Checked.Refused r) on = let h = on s f in (h.0, omega (arith, h.1))
+    go (Err r) on = let h = on s f in (h.0, omega (arith, h.1))
 balance (run k lent ∷ cs) s f = go (passed (run_check s k (length lent))) (balance cs)
   where
     go : (b : Bool) → ((v : State) → Figured v → Goes (final v cs) v.queue.backlog (given (starts_all v cs)) (work_from v cs)) →
@@ -155,7 +155,7 @@ module _ (t : Table) (calls : List Call) where
   abbrev s : State
   s = state_after_all t calls
 
-  returned : length t.tasks ≡ max_tasks → passed (table_check t) ≡ true → waiting_call s ≡ record { answer = Checked.Passed; work = sum_after t calls }
+  returned : length t.tasks ≡ max_tasks → passed (table_check t) ≡ true → waiting_call s ≡ Ok (sum_after t calls)
   returned z e = waiting-sum s (reached-fit t z e s (reached t calls (fresh_state t) started)).0
 
   pub kept : WaitingKept t calls

@@ -7,7 +7,7 @@ use Rattle.table.specs.declared.Task.{Task}
 use Rattle.table.specs.declared.Table.{Table}
 use Rattle.table.specs.declared.State.{State}
 use Rattle.table.specs.Model.{task_set_of, model_of, no_task}
-use Rattle.bounds.specs.Admission.{admission_call}
+use Rattle.bounds.specs.Admission.{admission_of}
 use Rattle.rules.specs.Tick.{server_at}
 use Rattle.guarantee.specs.Calls.{Call, ticks, tick_at, state_before, clock_after, has_task, has_request}
 
@@ -21,7 +21,7 @@ task_at xs i = get_or xs i no_task
 
 -- the bound that the admission call gives task i
 abbrev pub bound_at : Table → ℕ → ℕ
-bound_at t i = get_or (admission_call t).bounds i 0
+bound_at t i = get_or (admission_of t).bounds i 0
 
 -- "under polling and deferrable service"
 abbrev pub exact : Kind → Bool

@@ -1,11 +1,10 @@
 -- Request 8/13: "The work that waits, kept as a figure." What holds of the figure after every list of calls from the fresh state of a table,
 -- refused calls included. That it does is the theorem `waiting_kept` in proofs/Kept.
-use Rattle.std.specs.Prelude.{ℕ, ◌+◌, ◌≤◌, ◌≡◌, true, cond, List, [], ◌∷◌, length}
+use Rattle.std.specs.Prelude.{ℕ, ◌+◌, ◌≤◌, ◌≡◌, true, cond, List, [], ◌∷◌, length, Ok}
 use Rattle.lists.specs.Stretch.{how_many}
 use Rattle.queue.specs.Queue.{max_backlog, waiting_work, waiting_of}
 use Rattle.table.specs.declared.Table.{Table}
 use Rattle.table.specs.declared.State.{State}
-use Rattle.table.specs.declared.Checked.{Checked}
 use Rattle.table.specs.Limits.{max_tasks}
 use Rattle.table.specs.Refusal.{passed}
 use Rattle.table.specs.State.{fresh_state, table_check}
@@ -37,7 +36,7 @@ pub record WaitingKept (t : Table) (calls : List Call) : Type 0 where
   pub held : (state_after_all t calls).queue.backlog ≡ sum_after t calls
   -- "A new call returns the figure and it equals the sum over the queue": of a table that set-up accepts (its slots are 16, by its type)
   pub returned : length t.tasks ≡ max_tasks → passed (table_check t) ≡ true →
-      waiting_call (state_after_all t calls) ≡ record { answer = Checked.Passed; work = sum_after t calls }
+      waiting_call (state_after_all t calls) ≡ Ok (sum_after t calls)
   -- "A request adds its work; a tick that goes to a request, under any kind, takes one off": over the whole list, by what its calls report
   pub balanced : (state_after_all t calls).queue.backlog + how_many has_request (ticks t calls) ≡ accepted_work t calls
   -- it is at most 24 × 60,000

@@ -1,8 +1,7 @@
 -- What `schedule` prints before the ticks.
 use Rattle.std.specs.Prelude.{ℕ, suc, Bool, List, [], ◌∷◌, ◌++◌, take}
 use Rattle.bounds.specs.declared.Admission.{Admission}
-use Rattle.text.specs.declared.Line.{Line}
-use Rattle.text.specs.Lines.{line_bytes}
+use Rattle.text.specs.Lines.{Line, line_bytes}
 use Rattle.lines.specs.Lines.{task_bound_line, server_bound_line, admitted_line}
 
 -- a line for each element of a list, numbered from i

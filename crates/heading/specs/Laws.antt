@@ -1,9 +1,8 @@
 -- Laws of lines that are written: one that has room or may have none, and numbered ones one by one.
 use Rattle.std.specs.Prelude.{ℕ, zero, suc, ◌+◌, ◌≤◌, ◌<◌, ◌≡◌, List, [], ◌∷◌, ◌++◌, length, get_or, take}
 use Rattle.std.proofs.Common.{sym, ap, ◌∙◌, append-nil, append_assoc, arith, add-one}
-use Rattle.text.specs.declared.Line.{Line}
 use Rattle.text.specs.Buffer.{Wrote, if_room, wrote-same, has_room, then, nothing_written}
-use Rattle.text.specs.Lines.{line_room, line_bytes}
+use Rattle.text.specs.Lines.{Line, line_room, line_bytes}
 use Rattle.heading.specs.Heading.{numbered}
 
 -- a line that has room

@@ -1,4 +1,4 @@
-pub mod Rooms
 pub mod Heading
-pub mod Laws
 pub mod Cases
+pub mod Rooms
+pub mod Laws

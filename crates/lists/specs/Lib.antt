@@ -6,3 +6,4 @@ pub mod Time
 pub mod Count
 pub mod Stretch
 pub mod Search
+pub mod Shift

@@ -1,5 +1,5 @@
 -- A flag as a number, the lesser of two numbers, and sums within 32 bits.
-use Rattle.std.specs.Prelude.{ℕ, ◌+◌, ◌≤◌, ◌<◌, ◌≡◌, refl, Bool, true, false, cond, ltb}
+use Rattle.std.specs.Prelude.{ℕ, ◌+◌, ◌≤◌, ◌<◌, ◌≡◌, refl, Bool, true, false, cond, ltb, min}
 use Rattle.std.proofs.Common.{arith, ltb-true, ltb-false, lt-ltb, le-ltb}
 
 -- 1 for true, 0 for false
@@ -39,3 +39,14 @@ sum_fits a b h = rw (le-ltb last32 (a + b) h) refl
 
 pub sum_capped : (a b : ℕ) → last32 < a + b → last32 ≡ capped_sum a b
 sum_capped a b h = rw (lt-ltb last32 (a + b) h) refl
+
+-- std's lesser of two numbers and its sum that stops at the last of 32 bits are these
+pub lesser_is : (a b : ℕ) → min a b ≡ lesser_of a b
+lesser_is a b = by (ltb b a) refl
+  where
+    by : (c : Bool) → ltb b a ≡ c → min a b ≡ cond c b a
+    by true e = omega (arith, ltb-true b a e)
+    by false e = omega (arith, ltb-false b a e)
+
+pub capped_is : (a b : ℕ) → min (a + b) last32 ≡ capped_sum a b
+capped_is a b = lesser_is (a + b) last32

@@ -5,33 +5,33 @@ use Rattle.std.proofs.Common.{arith, add-one, sym, ap, subst, ◌∙◌, append-
 use Rattle.std.proofs.lemmas.Bool.{lt-leb}
 use Rattle.lists.specs.Lists.{take_overlay}
 use Rattle.queue.specs.declared.Request.{Request}
-use Rattle.queue.specs.declared.Finish.{Finish}
 use Rattle.queue.specs.Queue.{waiting_of, served}
 use Rattle.table.specs.declared.State.{State}
-use Rattle.table.specs.declared.Checked.{Checked}
 use Rattle.table.specs.Refusal.{passed}
 use Rattle.table.specs.Model.{task_set_of, model_of}
-use Rattle.table.specs.State.{fit}
 use Rattle.rules.specs.declared.Entry.{Entry}
 use Rattle.rules.specs.declared.Occupant.{Occupant}
 use Rattle.rules.specs.declared.Turn.{Turn}
 use Rattle.rules.specs.declared.Ticked.{Ticked}
 use Rattle.rules.specs.Tick.{worked_queue, finish_of, turn_at}
-use Rattle.rules.specs.Calls.{clock_allows, entry_by, entry_of, ticked, state_after, tick_call, ran_by, run_state, run_entries, run_check, run_list}
+use Rattle.rules.specs.Calls.{Called, entry_by, entry_of, ticked, state_after, tick_call, ran_by, run_state, run_entries, run_check, run_list}
 use Rattle.rules.specs.Laws.{Sized}
-use Rattle.scheduler.specs.declared.Recording.{Recording}
-use Rattle.scheduler.specs.Parts.{block_ticks, may_run, allowance, idle_entries, block_call}
-use Rattle.scheduler.specs.Laws.{starts, one, onwards, may-fit, run_length}
+use Rattle.rules.specs.Block.{block_ticks, idle_entries}
+use Rattle.scheduler.specs.Parts.{may_run}
+use Rattle.scheduler.specs.Allowance.{Recording, allowance, block_call, starts}
+use Rattle.scheduler.specs.Laws.{one, onwards, may-fit, run_length}
 use Rattle.text.specs.Lines.{line_room, line_bytes}
 use Rattle.text.specs.Buffer.{Wrote, wrote-same}
-use Rattle.plan.specs.declared.Next.{Next}
-use Rattle.output.specs.declared.Place.{Place}
+use Rattle.std.specs.Prelude.{Option, Some, None, Ok}
+use Rattle.plan.specs.declared.line.Arrival.{Arrival}
+use Rattle.output.specs.Place.{Place}
 use Rattle.heading.specs.Heading.{numbered}
-use Rattle.output.specs.Totals.{counted, answered, block_totals}
+use Rattle.output.specs.Totals.{answered}
 use Rattle.output.specs.Output.{occupant_line, tick_text}
 use Rattle.output.specs.Steps.{Step, step_from, and_then, steps_from, Stepped, NotDue}
 use Rattle.output.proofs.Steps.{step-tick, taken-same}
-use Rattle.output.specs.Blocks.{Free, Undisturbed, Unfinished, block_text, entry_line}
+use Rattle.output.proofs.ReadBack.{fit-ran}
+use Rattle.output.specs.Blocks.{Free, Undisturbed, Unfinished, block_text, entry_line, block_totals, ticks_run, quiet_tick}
 
 -- ---- a tick that finishes nothing
 entry_line_lem : (t : ℕ) (o : Occupant) (d : ℕ) → entry_line t (entry_by o d) ≡ occupant_line t o d
@@ -39,7 +39,7 @@ entry_line_lem t Occupant.Idle d = refl
 entry_line_lem t (Occupant.Task i) d = refl
 entry_line_lem t (Occupant.Request id) d = refl
 
-none-finished : (t : ℕ) (turn : Turn) (q : List Request) (k : ℕ) → Unfinished q (suc k) → finish_of t turn q ≡ Finish.Nothing
+none-finished : (t : ℕ) (turn : Turn) (q : List Request) (k : ℕ) → Unfinished q (suc k) → finish_of t turn q ≡ None
 none-finished t Turn.Nobody q k h = refl
 none-finished t (Turn.Task i) q k h = refl
 none-finished t Turn.Budget [] k h = refl
@@ -56,9 +56,9 @@ pub unfinished-less : (q : List Request) (k j : ℕ) → j ≤ k → Unfinished 
 unfinished-less [] k j l h = tt
 unfinished-less (r ∷ q) k j l h = omega arith
 
-pub undisturbed_less : (n : Next) (t u : ℕ) → u ≤ t → Undisturbed n t → Undisturbed n u
-undisturbed_less (Next.Found a q) t u l h = omega arith
-undisturbed_less Next.Done t u l h = tt
+pub undisturbed_less : (n : Option (Arrival × ℕ)) (t u : ℕ) → u ≤ t → Undisturbed n t → Undisturbed n u
+undisturbed_less (Some (a, q)) t u l h = omega arith
+undisturbed_less None t u l h = tt
 
 worked-less : (turn : Turn) (q : List Request) (k : ℕ) → Unfinished q (suc k) → Unfinished (worked_queue turn q) k
 worked-less Turn.Nobody q k h = unfinished-less q (suc k) k (omega arith) h
@@ -66,16 +66,13 @@ worked-less (Turn.Task i) q k h = unfinished-less q (suc k) k (omega arith) h
 worked-less Turn.Budget q k h = served-less q k h
 worked-less Turn.Spare q k h = served-less q k h
 
-pub fit-ran : (s : State) → fit s ≡ true → clock_allows s 1 ≡ true → tick_call s ≡ ran_by s (ticked s)
-fit-ran s f c = rw (f, c) refl
-
 module _ (s : State) (may : may_run 1 s ≡ true) where
   tick-ran : tick_call s ≡ ran_by s (ticked s)
   tick-ran = let f = may-fit s may in fit-ran s f.0 f.1
 
   tick_line_lem : (t k : ℕ) → Unfinished (waiting_of s.queue) (suc k) → tick_text t (tick_call s).answer ≡ line_bytes (entry_line t (entry_of (ticked s)))
   tick_line_lem t k h =
-      ap (λ (x : Ticked). tick_text t x.answer) tick-ran
+      ap (λ (x : Called Ticked). tick_text t x.answer) tick-ran
       ∙ rw (none-finished s.progress.clock (turn_at (task_set_of s.table) (model_of s)) (waiting_of s.queue) k h) (append-nil _)
       ∙ ap line_bytes (sym (entry_line_lem t (ticked s).occupant (ticked s).drops))
 
@@ -85,43 +82,19 @@ module _ (s : State) (may : may_run 1 s ≡ true) where
       rw (take_overlay (length w) w s.queue.requests refl) (worked-less (turn_at (task_set_of s.table) (model_of s)) (waiting_of s.queue) k h)
 
 -- ---- the ticks of a block, one by one
--- k ticks are run at once: their X lines; they are counted
-abbrev ticks_run : ℕ → Place → Step
-ticks_run k p = record {
-  place = record {
-    tick = p.tick + k;
-    next = p.next;
-    state = run_state k p.state;
-    totals = block_totals p.totals (run_entries k p.state);
-  };
-  text = block_text p.tick (run_entries k p.state);
-}
-
 -- a block's first tick is not due either
 free_not_due : (ticks : ℕ) (p : Place) (k : ℕ) → 0 < k → Free ticks p k → NotDue p.next p.tick
 free_not_due ticks p k some free = go p.next free.next
   where
-    go : (n : Next) → Undisturbed n (p.tick + k) → NotDue n p.tick
-    go (Next.Found a q) h = λ e. absurd (omega arith)
-    go Next.Done h = tt
-
--- one of them: its X line
-abbrev quiet_tick : Place → Step
-quiet_tick p = record {
-  place = record {
-    tick = p.tick + 1;
-    next = p.next;
-    state = state_after p.state;
-    totals = counted p.totals (entry_of (ticked p.state));
-  };
-  text = line_bytes (entry_line p.tick (entry_of (ticked p.state)));
-}
+    go : (n : Option (Arrival × ℕ)) → Undisturbed n (p.tick + k) → NotDue n p.tick
+    go (Some (a, q)) h = λ e. absurd (omega arith)
+    go None h = tt
 
 module _ (bytes : List ℕ) (ticks k : ℕ) (p : Place) (may : may_run 1 p.state ≡ true) (free : Free ticks p (suc k)) where
   quiet_step : step_from bytes ticks p ≡ quiet_tick p
   quiet_step =
       step-tick bytes ticks p (omega (arith, free.ends)) (free_not_due ticks p (suc k) (omega arith) free)
-      ∙ rw (tick_line_lem p.state may p.tick k free.head, ap (λ (x : Ticked). x.state) (tick-ran p.state may), ap (λ (x : Ticked). answered p.totals x.answer) (tick-ran p.state may)) refl
+      ∙ rw (tick_line_lem p.state may p.tick k free.head, ap (λ (x : Called Ticked). x.state) (tick-ran p.state may), ap (λ (x : Called Ticked). answered p.totals x.answer) (tick-ran p.state may)) refl
 
   quiet_free : Free ticks (quiet_tick p).place k
   quiet_free =
@@ -150,7 +123,7 @@ block_steps bytes ticks (suc k) p may z free =
 -- a block is taken: as many steps as it has ticks
 pub block_taken :
     (bytes : List ℕ) (ticks : ℕ) {l m : List ℕ} {at r : ℕ} (p q : Place) (k : ℕ) (b : Recording) → 0 < k → at + k * line_room ≤ length l → r ≤ at + k * line_room → Free ticks p k → Sized p.state →
-    b ≡ block_call p.state k → b.answer ≡ Checked.Passed → Wrote l at (block_text p.tick (take k b.entries)) m r →
+    b ≡ block_call p.state k → b.answer ≡ Ok tt → Wrote l at (block_text p.tick (take k b.entries)) m r →
     q ≡ record { tick = p.tick + k; next = p.next; state = b.state; totals = block_totals p.totals (take k b.entries) } → Stepped bytes ticks l at p m r q
 unfolding allowance block_call
 block_taken bytes ticks {l} {m} {at} {r} p q k b some room few free z eb ea w e = record {

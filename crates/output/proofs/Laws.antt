@@ -1,61 +1,92 @@
--- Laws of the parts: totals of a record, places, how many ticks may be run at once, and tests.
-use Prim.Native.Nat.{ℕ, zero, suc, ◌+◌, ◌≤◌, ◌<◌}
-use mathlib.Core.Path.{◌≡◌, refl, ap, ◌∙◌}
-use mathlib.Core.Bool.{Bool, true, false, ◌&&◌, false≢true}
-use mathlib.Core.List.{List, [], ◌∷◌}
-use mathlib.Core.Logic.{◌⊎◌, inl, inr}
-use native.Mathlib.Omega.{arith}
-use lib.ListN.{length, get_or, take}
-use lib.Dec.{ltb, leb}
-use borrow.Author.Tests.{ltb-true, ltb-false, leb-true, leb-false}
+-- Laws of what is left to print: of the A lines of a tick, and of the ticks.
+use Prim.Native.Nat.{ℕ, suc, ◌+◌, ◌-◌, ◌<◌}
+use Rattle.std.specs.Prelude.{◌≡◌, List, [], ◌∷◌, ◌++◌, Ok, Err}
+use Rattle.std.proofs.Math.Path.{refl}
+use Rattle.std.proofs.Common.{◌∙◌, arith, add-one, eq-eqb, ne_eqb}
 use Rattle.table.specs.declared.State.{State}
-use Rattle.plan.specs.declared.Next.{Next}
-use Rattle.queue.specs.Queue.{waiting_of}
-use Rattle.rules.specs.declared.Entry.{Entry}
-use Rattle.output.specs.Totals.{counted, block_totals}
-use Rattle.output.specs.Blocks.{Free}
-use Rattle.output.proofs.Blocks.{unfinished-less, undisturbed_less}
-use Rattle.output.specs.declared.Place.{Place}
-use Rattle.output.specs.declared.Totals.{Totals}
+use Rattle.table.specs.State.{fresh_state}
+use Rattle.bounds.specs.Admission.{admission_of}
+use Rattle.rules.specs.Calls.{tick_call}
+use Rattle.text.specs.Lines.{line_bytes}
+use Rattle.lines.specs.Lines.{plan_refused_line}
+use Rattle.plan.specs.declared.line.Arrival.{Arrival}
+use Rattle.plan.specs.declared.reading.Plan.{Plan}
+use Rattle.plan.specs.declared.refusal.Rejection.{Rejection}
+use Rattle.plan.specs.Refusal.{number}
+use Rattle.plan.specs.Plan.{plan_of, arrivals_from}
+use Rattle.heading.specs.Heading.{head_text}
+use Rattle.output.specs.declared.totals.Totals.{Totals}
+use Rattle.output.specs.Totals.{no_totals, answered, closing_text}
+use Rattle.output.specs.Coming.{NoneDue}
+use Rattle.output.specs.Output.{answer_text, tick_text, arrival_call, due_text, after_due, later, ticks_text, text_by, schedule_text}
 
--- the totals with one tick more of a record
-pub block_on :
-    (t : Totals) (es : List Entry) (i : ℕ) (d : Entry) → i < length es →
-    counted (block_totals t (take i es)) (get_or es i d) ≡ block_totals t (take (suc i) es)
-unfolding block_totals
-block_on t [] i d h = absurd (omega arith)
-block_on t (e ∷ es) zero d h = refl
-block_on t (e ∷ es) (suc i) d h = block_on (counted t e) es i d (omega arith)
+module _ (t : ℕ) (s : State) where
+  -- the A line `a` of tick t is presented
+  module _ (a : Arrival) (rest : List Arrival) (due : a.tick ≡ t) where
+    pub due_next : due_text t s (a ∷ rest) ≡ answer_text t a.id (arrival_call s a).answer ++ due_text t (arrival_call s a).state rest
+    unfolding due_text
+    due_next = rw (eq-eqb _ _ due) refl
 
--- places that agree in their parts
-pub place_same :
-    (t : ℕ) {n k : Next} {s z : State} {u v : Totals} → n ≡ k → s ≡ z → u ≡ v →
-    ◌≡◌ {A = Place} (record { tick = t; next = n; state = s; totals = u }) (record { tick = t; next = k; state = z; totals = v })
-place_same t {n} {k} {s} {z} {u} {v} e f g =
-    ap (λ (x : Next). record { tick = t; next = x; state = s; totals = u }) e
-    ∙ ap (λ (x : State). record { tick = t; next = k; state = x; totals = u }) f
-    ∙ ap (λ (x : Totals). record { tick = t; next = k; state = z; totals = x }) g
+    pub after_next : after_due t s (a ∷ rest) ≡ after_due t (arrival_call s a).state rest
+    unfolding after_due
+    after_next = rw (eq-eqb _ _ due) refl
 
--- fewer of them may be run at once too
-pub free_less : (ticks : ℕ) (p : Place) (k j : ℕ) → j ≤ k → Free ticks p k → Free ticks p j
-free_less ticks p k j h f = record {
-  few = omega (arith, f.few);
-  ends = omega (arith, f.ends);
-  next = undisturbed_less p.next (p.tick + k) (p.tick + j) (omega arith) f.next;
-  head = unfinished-less (waiting_of p.state.queue) k j h f.head;
-}
+    pub later_next : later t (a ∷ rest) ≡ later t rest
+    unfolding later
+    later_next = rw (eq-eqb _ _ due) refl
 
--- ---- two tests: both hold, or one does not
-pub tests_hold : (a b c d : ℕ) → (ltb a b && leb c d) ≡ true → (a < b) × (c ≤ d)
-tests_hold a b c d e = by (ltb a b) refl e
-  where
-    by : (x : Bool) → ltb a b ≡ x → (x && leb c d) ≡ true → (a < b) × (c ≤ d)
-    by true f g = (ltb-true a b f, leb-true c d g)
-    by false f g = absurd (false≢true g)
+  -- no A line is due any more
+  pub record Presented (rest : List Arrival) : Type 0 where
+    pub text : due_text t s rest ≡ []
+    pub state : after_due t s rest ≡ s
+    pub left : later t rest ≡ rest
 
-pub test_fails : (a b c d : ℕ) → (ltb a b && leb c d) ≡ false → (b ≤ a) ⊎ (d < c)
-test_fails a b c d e = by (ltb a b) refl e
-  where
-    by : (x : Bool) → ltb a b ≡ x → (x && leb c d) ≡ false → (b ≤ a) ⊎ (d < c)
-    by true f g = inr (leb-false c d g)
-    by false f g = inl (ltb-false a b f)
+  pub presented : (rest : List Arrival) → NoneDue t rest → Presented rest
+  unfolding due_text after_due later
+  presented [] h = record { text = refl; state = refl; left = refl }
+  presented (a ∷ rest) h = let e = ne_eqb a.tick t h in record { text = rw e refl; state = rw e refl; left = rw e refl }
+
+-- ---- the ticks
+-- totals by their figures: none of them counts a tick yet
+abbrev figures : ℕ → ℕ → ℕ → ℕ → Totals
+figures i t r d = record { idle = i; tasks = t; requests = r; drops = d }
+
+pub all_none : {i t r d : ℕ} → i ≡ 0 → t ≡ 0 → r ≡ 0 → d ≡ 0 → figures i t r d ≡ no_totals
+all_none a b c d = rw (a, b, c, d) refl
+
+-- what is left to print at tick t of so many
+abbrev pub ticks_from : ℕ → ℕ → Totals → State → List Arrival → List ℕ
+ticks_from ticks t u s rest = ticks_text (ticks - t) t u s rest
+
+module _ (ticks t : ℕ) (u : Totals) (q : State) (coming : List Arrival) (h : t < ticks) where
+  -- the tick of the state s, and the ticks after it
+  abbrev on_from : State → List Arrival → List ℕ
+  on_from s rest = tick_text t (tick_call s).answer ++ ticks_text (ticks - (t + 1)) (t + 1) (answered u (tick_call s).answer) (tick_call s).state rest
+
+  -- what is presented before it comes first
+  pub due_first : ticks_from ticks t u q coming ≡ due_text t q coming ++ on_from (after_due t q coming) (later t coming)
+  unfolding ticks_text
+  due_first =
+      let k : ticks - t ≡ suc (ticks - (t + 1)) = omega arith in
+      rw (k, add-one t) refl
+
+  -- then the tick: the state s and the A lines of `rest` are those after that
+  pub tick_on : (s : State) (rest : List Arrival) → s ≡ after_due t q coming → rest ≡ later t coming →
+      ticks_from ticks t u q coming ≡
+      due_text t q coming ++ (tick_text t (tick_call s).answer ++ ticks_from ticks (t + 1) (answered u (tick_call s).answer) (tick_call s).state rest)
+  tick_on s rest e f = due_first ∙ rw (← e, ← f) refl
+
+-- no tick is left
+pub ticks_end : (ticks t : ℕ) (u : Totals) (s : State) (rest : List Arrival) → t ≡ ticks → ticks_from ticks t u s rest ≡ closing_text ticks u
+unfolding ticks_text
+ticks_end ticks t u s rest e = let k : ticks - t ≡ 0 = omega arith in rw (k, e) refl
+
+-- ---- the whole, by the answer of the check
+pub refused : (bytes : List ℕ) (r : Rejection) → plan_of bytes ≡ Err r → schedule_text bytes ≡ line_bytes (plan_refused_line (number r.refusal) r.line)
+unfolding schedule_text text_by
+refused bytes r e = rw e refl
+
+pub accepted : (bytes : List ℕ) (p : Plan) → plan_of bytes ≡ Ok p →
+    schedule_text bytes ≡ head_text p.table.n (admission_of p.table) ++ ticks_text p.ticks 0 no_totals (fresh_state p.table) (arrivals_from bytes 0)
+unfolding schedule_text text_by
+accepted bytes p e = rw e refl

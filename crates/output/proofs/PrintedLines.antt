@@ -1,26 +1,23 @@
 -- Each line that is printed, read back from its bytes: where it ends, and what it adds to the sums over X lines.
-use Rattle.std.specs.Prelude.{ℕ, suc, ◌+◌, ◌^◌, ◌≤◌, ◌<◌, ◌≡◌, true, false, cond, List, [], ◌∷◌, ◌++◌, take, eqb}
+use Rattle.std.specs.Prelude.{ℕ, suc, ◌+◌, ◌^◌, ◌≤◌, ◌<◌, ◌≡◌, true, false, cond, List, [], ◌∷◌, ◌++◌, take, eqb, Err, None, Ok, Option, Result, Some}
 use Rattle.std.proofs.Common.{arith, sym, ap, ◌∙◌, append-nil, append_assoc}
 use Rattle.std.proofs.Math.Path.{refl}
 use Rattle.lists.specs.Numbers.{bit_of}
-use Rattle.queue.specs.declared.Finish.{Finish}
-use Rattle.table.specs.declared.Checked.{Checked}
+use Rattle.queue.specs.declared.Finished.{Finished}
+use Rattle.table.specs.declared.Refusal.{Refusal}
 use Rattle.table.specs.Refusal.{number}
 use Rattle.bounds.specs.declared.Admission.{Admission}
 use Rattle.rules.specs.declared.Occupant.{Occupant}
-use Rattle.rules.specs.Calls.{occupant_kind}
 use Rattle.text.specs.declared.Part.{Part}
-use Rattle.text.specs.declared.Line.{Line}
 use Rattle.text.specs.Decimal.{max_digits, decimal}
-use Rattle.text.specs.Lines.{part_bytes, line_bytes}
+use Rattle.text.specs.Lines.{Line, part_bytes, parts_bytes, line_bytes}
 use Rattle.text.specs.ReadBack.{decimal-digits, decimal-value}
 use Rattle.lines.specs.Lines.{task_bound_line, server_bound_line, admitted_line, refused_line, tick_line, finish_line}
-use Rattle.fields.specs.Text.{Pieces, end, piece, split, max_number}
-use Rattle.fields.specs.ReadBack.{digits_last}
+use Rattle.plan.specs.Text.{Pieces, end, piece, split, max_number}
+use Rattle.plan.proofs.LineBack.{digits_last}
 use Rattle.plan.proofs.PlanBack.{without, split_at, without_append, digits-without}
 use Rattle.heading.specs.Heading.{numbered, verdict_text, head_text}
 use Rattle.output.specs.Output.{answer_text, occupant_line, finish_text}
-use Rattle.output.specs.Blocks.{letter}
 use Rattle.output.specs.Printed.{is_x, Figure, ticks, idle, rows, requests, drops, adds, sum_x}
 
 -- ---- text that is closed lines
@@ -62,53 +59,52 @@ then {a} {b} x y = record {
 }
 
 -- ---- a line that is printed
-abbrev run_to : List (List ℕ) → List ℕ → List ℕ
-run_to [] z = z
-run_to (x ∷ xs) z = x ++ run_to xs z
-
-abbrev parts_of : Line → List (List ℕ)
-parts_of l = part_bytes l.first ∷ part_bytes l.second ∷ part_bytes l.third ∷ part_bytes l.fourth ∷ part_bytes l.fifth ∷ []
+abbrev parts_body : List Part → List ℕ
+parts_body [] = []
+parts_body (p ∷ ps) = part_bytes p ++ parts_body ps
 
 -- without its line feed
 abbrev pub body_of : Line → List ℕ
-body_of l = l.letter ∷ run_to (parts_of l) []
+body_of l = l.letter ∷ parts_body l.parts
 
-run_append : (xs : List (List ℕ)) (z r : List ℕ) → run_to xs z ++ r ≡ run_to xs (z ++ r)
-run_append [] z r = refl
-run_append (x ∷ xs) z r = append_assoc x (run_to xs z) r ∙ ap (λ (w : List ℕ). x ++ w) (run_append xs z r)
+parts_closed : (ps : List Part) (rest : List ℕ) → parts_bytes ps ++ rest ≡ parts_body ps ++ 10 ∷ rest
+parts_closed [] rest = refl
+parts_closed (p ∷ ps) rest =
+    append_assoc (part_bytes p) (parts_bytes ps) rest ∙ ap (λ (w : List ℕ). part_bytes p ++ w) (parts_closed ps rest)
+    ∙ sym (append_assoc (part_bytes p) (parts_body ps) (10 ∷ rest))
 
-line-closed : (l : Line) (rest : List ℕ) → line_bytes l ++ rest ≡ body_of l ++ 10 ∷ rest
+line_closed : (l : Line) (rest : List ℕ) → line_bytes l ++ rest ≡ body_of l ++ 10 ∷ rest
 unfolding line_bytes
-line-closed l rest = ap (λ (w : List ℕ). l.letter ∷ w) (run_append (parts_of l) (10 ∷ []) rest ∙ sym (run_append (parts_of l) [] (10 ∷ rest)))
+line_closed l rest = ap (λ (w : List ℕ). l.letter ∷ w) (parts_closed l.parts rest)
 
 -- it holds no line feed
 abbrev PlainPart : Part → Type 0
 PlainPart (Part.Number x) = Unit {0}
 PlainPart (Part.Letter c) = eqb c 10 ≡ false
-PlainPart Part.Nothing = Unit {0}
+
+abbrev PlainParts : List Part → Type 0
+PlainParts [] = Unit {0}
+PlainParts (p ∷ ps) = PlainPart p × PlainParts ps
 
 abbrev Plain : Line → Type 0
-Plain l =
-    (eqb l.letter 10 ≡ false) × PlainPart l.first × PlainPart l.second × PlainPart l.third × PlainPart l.fourth × PlainPart l.fifth
+Plain l = (eqb l.letter 10 ≡ false) × PlainParts l.parts
 
 part_without : (p : Part) → PlainPart p → without 10 (part_bytes p) ≡ true
 unfolding without
 part_without (Part.Number x) h = digits-without 10 (omega arith) (decimal x) (decimal-digits x)
 part_without (Part.Letter c) h = rw h refl
-part_without Part.Nothing h = refl
+
+parts_without : (ps : List Part) → PlainParts ps → without 10 (parts_body ps) ≡ true
+unfolding without
+parts_without [] h = refl
+parts_without (p ∷ ps) h = without_append 10 (part_bytes p) (parts_body ps) (part_without p h.0) (parts_without ps h.1)
 
 body-without : (l : Line) → Plain l → without 10 (body_of l) ≡ true
 unfolding without
-body-without l h =
-    rw h.0
-    (without_append 10 (part_bytes l.first) _ (part_without l.first h.1)
-    (without_append 10 (part_bytes l.second) _ (part_without l.second h.2)
-    (without_append 10 (part_bytes l.third) _ (part_without l.third h.3)
-    (without_append 10 (part_bytes l.fourth) _ (part_without l.fourth h.4)
-    (without_append 10 (part_bytes l.fifth) _ (part_without l.fifth h.5) refl)))))
+body-without l h = rw h.0 (parts_without l.parts h.1)
 
 pub line-parted : (l : Line) → Plain l → (rest : List ℕ) → split 10 (line_bytes l ++ rest) ≡ piece (body_of l) (split 10 rest)
-line-parted l h rest = ap (split 10) (line-closed l rest) ∙ split_at 10 (body_of l) rest (body-without l h)
+line-parted l h rest = ap (split 10) (line_closed l rest) ∙ split_at 10 (body_of l) rest (body-without l h)
 
 one_line : (l : Line) → Plain l → Lines (line_bytes l) (λ f. cond (is_x (body_of l)) (adds f (body_of l)) 0)
 one_line l h = record {
@@ -162,24 +158,27 @@ module _ (t c id d : ℕ) (plain : eqb c 44 ≡ false) where
   tick-adds h drops = let k : d < 10 ^ max_digits = omega arith in rw tick-fields (decimal-value d k)
 
   tick-printed : eqb c 10 ≡ false → d ≤ max_number → Lines (line_bytes (tick_line t c id d)) (of_tick c d)
-  tick-printed e h = same-sums (one_line (tick_line t c id d) (refl, tt, e, tt, tt, tt)) (tick-adds h)
+  tick-printed e h = same-sums (one_line (tick_line t c id d) (refl, (tt, (e, (tt, (tt, tt)))))) (tick-adds h)
 
 -- ---- the lines of a tick
+-- "I idle or T row or A request"
 abbrev pub letter_of : Occupant → ℕ
-letter_of o = letter (occupant_kind o)
+letter_of Occupant.Idle = 73
+letter_of (Occupant.Task i) = 84
+letter_of (Occupant.Request id) = 65
 
 pub occupant-printed : (t : ℕ) (o : Occupant) (d : ℕ) → d ≤ max_number → Lines (line_bytes (occupant_line t o d)) (of_tick (letter_of o) d)
 occupant-printed t Occupant.Idle d h = tick-printed t 73 0 d refl refl h
 occupant-printed t (Occupant.Task i) d h = tick-printed t 84 i d refl refl h
 occupant-printed t (Occupant.Request id) d h = tick-printed t 65 id d refl refl h
 
-pub answer_printed : (t id : ℕ) (a : Checked) → Lines (answer_text t id a) nothing
-answer_printed t id Checked.Passed = no_lines
-answer_printed t id (Checked.Refused r) = other-line (refused_line t id (number r)) (refl, tt, tt, tt, tt, tt) refl
+pub answer_printed : (t id : ℕ) (a : Result (Unit {0}) Refusal) → Lines (answer_text t id a) nothing
+answer_printed t id (Ok x) = no_lines
+answer_printed t id (Err r) = other-line (refused_line t id (number r)) (refl, (tt, (tt, (tt, tt)))) refl
 
-pub finish-printed : (t : ℕ) (x : Finish) → Lines (finish_text t x) nothing
-finish-printed t Finish.Nothing = no_lines
-finish-printed t (Finish.Finished id response) = other-line (finish_line t id response) (refl, tt, tt, tt, tt, tt) refl
+pub finish-printed : (t : ℕ) (x : Option Finished) → Lines (finish_text t x) nothing
+finish-printed t None = no_lines
+finish-printed t (Some x) = other-line (finish_line t x.id x.response) (refl, (tt, (tt, (tt, tt)))) refl
 
 -- ---- the head
 numbered-printed :
@@ -192,6 +191,6 @@ numbered-printed line h i (x ∷ xs) = then (h i x) (numbered-printed line h (su
 pub head-printed : (n : ℕ) (a : Admission) → Lines (head_text n a) nothing
 unfolding head_text verdict_text
 head-printed n a =
-    then (numbered-printed task_bound_line (λ i b. other-line (task_bound_line i b) (refl, tt, tt, tt, tt, tt) refl) 0 (take n a.bounds))
-    (then (other-line (server_bound_line a.serverbound) (refl, refl, tt, tt, tt, tt) refl)
-    (other-line (admitted_line a.admitted) (refl, tt, tt, tt, tt, tt) refl))
+    then (numbered-printed task_bound_line (λ i b. other-line (task_bound_line i b) (refl, (tt, (tt, tt))) refl) 0 (take n a.bounds))
+    (then (other-line (server_bound_line a.serverbound) (refl, (refl, (tt, tt))) refl)
+    (other-line (admitted_line a.admitted) (refl, (tt, tt)) refl))

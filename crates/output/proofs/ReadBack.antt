@@ -1,42 +1,43 @@
 -- What `schedule` prints of an accepted plan, read back from its bytes, ends with its totals.
 use Prim.Native.Nat.{ℕ, zero, suc, ◌+◌, ◌*◌, ◌≤◌}
 use Rattle.std.proofs.Common.{arith, ◌∙◌, le-leb}
-use Rattle.std.specs.Prelude.{◌≡◌, Bool, true, false, length, take, drop, eqb, ltb}
+use Rattle.std.specs.Prelude.{◌≡◌, Bool, true, false, length, take, drop, eqb, ltb, Ok, Result, Option, Some}
 use Rattle.std.proofs.Math.Path.{refl, sym, ap, subst}
 use mathlib.Core.List.{List, [], ◌∷◌, ◌++◌, append-nil, append_assoc}
 use Rattle.lists.specs.Numbers.{bit_of, capped_sum, sum_fits}
 use Rattle.lists.specs.Tests.{either}
-use Rattle.queue.specs.declared.Finish.{Finish}
+use Rattle.queue.specs.declared.Finished.{Finished}
 use Rattle.server.specs.Limits.{last_clock}
 use Rattle.table.specs.declared.Table.{Table}
 use Rattle.table.specs.declared.State.{State}
 use Rattle.table.specs.Limits.{max_tasks}
 use Rattle.table.specs.Refusal.{passed}
-use Rattle.table.specs.State.{table_check, set_up_call}
+use Rattle.table.specs.State.{fit, table_check, fresh_state}
 use Rattle.table.specs.Model.{model_of, written}
 use Rattle.table.specs.Facts.{fit-facts, table-facts}
-use Rattle.bounds.specs.Admission.{admission_call}
+use Rattle.bounds.specs.Admission.{admission_of}
 use Rattle.rules.specs.declared.Occupant.{Occupant}
 use Rattle.rules.specs.declared.Ticked.{Ticked}
-use Rattle.rules.specs.Calls.{asked, request_check, ticked, ran_by, occupant_kind, entry_by}
+use Rattle.rules.specs.Calls.{Called, asked, request_check, clock_allows, tick_call, ticked, ran_by, occupant_kind, entry_by}
 use Rattle.rules.proofs.Laws as calls
 use Rattle.rules.proofs.Laws.{reached-fit, tick-few}
-use Rattle.text.specs.declared.Line.{Line}
 use Rattle.text.specs.Decimal.{decimal}
-use Rattle.text.specs.Lines.{line_bytes}
+use Rattle.text.specs.Lines.{Line, line_bytes}
 use Rattle.lines.specs.Lines.{totals_line}
-use Rattle.fields.specs.declared.Arrival.{Arrival}
-use Rattle.fields.specs.Text.{end, piece, split, max_number}
-use Rattle.fields.specs.Lines.{are, numbers, max_ticks}
-use Rattle.fields.specs.ReadBack.{fields, fields_back}
-use Rattle.plan.specs.declared.Answer.{Answer}
+use Rattle.plan.specs.declared.line.Arrival.{Arrival}
+use Rattle.plan.specs.Text.{end, piece, split, max_number}
+use Rattle.plan.specs.Lines.{numbers, max_ticks}
+use Rattle.plan.specs.LineBack.{fields}
+use Rattle.plan.proofs.LineBack.{fields_back}
+use Rattle.plan.specs.declared.reading.Plan.{Plan}
+use Rattle.plan.specs.declared.refusal.Rejection.{Rejection}
 use Rattle.plan.specs.Plan.{plan_of, arrivals_from}
-use Rattle.plan.proofs.Accepted.{accepted-keeps}
+use Rattle.plan.proofs.Accepted.{Keeps, accepted-keeps}
+use Rattle.std.proofs.lemmas.Result.{IfOk-at_ok}
 use Rattle.heading.specs.Heading.{head_text}
-use Rattle.output.specs.declared.Totals.{Totals}
+use Rattle.output.specs.declared.totals.Totals.{Totals}
 use Rattle.output.specs.Totals.{no_totals, counted, answered, closing_text}
 use Rattle.output.specs.Output.{occupant_line, finish_text, tick_text, arrival_call, due_text, after_due, later, ticks_text, text_by, schedule_text}
-use Rattle.output.proofs.Blocks.{fit-ran}
 use Rattle.output.specs.Printed.{closed, unclosed, lines_of, last_of, Figure, ticks, idle, rows, requests, drops, sum_x, over_x, Totalled}
 use Rattle.output.proofs.PrintedLines.{Lines, answer_printed, body_of, finish-printed, head-printed, in_front, letter_of, line-parted, no_lines, nothing, occupant-printed, of_tick, same-sums, sum_append, then}
 
@@ -121,7 +122,7 @@ none-ran t u h =
     }
 
 -- a tick, after lines that are no X lines, and the ticks after it
-module _ (k t : ℕ) (u : Totals) (o : Occupant) (d : ℕ) (x : Finish) (early : t ≤ max_ticks) (small : Small t u) (few : d ≤ max_tasks) where
+module _ (k t : ℕ) (u : Totals) (o : Occupant) (d : ℕ) (x : Option Finished) (early : t ≤ max_ticks) (small : Small t u) (few : d ≤ max_tasks) where
   more-ran :
       {a z : List ℕ} → Lines a nothing → Ran k (suc t) (counted u (entry_by o d)) z →
       Ran (suc k) t u (a ++ ((line_bytes (occupant_line t o d) ++ finish_text t x) ++ z))
@@ -172,6 +173,10 @@ due-printed table t s (a ∷ rest) r = by (eqb a.tick t) refl (due-printed table
     }
     by false e on = record { lines = rw e no_lines; reached = rw e r; clock = rw e refl }
 
+-- a tick of a fit state
+pub fit-ran : (s : State) → fit s ≡ true → clock_allows s 1 ≡ true → tick_call s ≡ ran_by s (ticked s)
+fit-ran s f c = rw (f, c) refl
+
 module _ (table : Table) (sized : length table.tasks ≡ max_tasks) (ok : passed (table_check table) ≡ true) where
   ran :
       (k t : ℕ) (u : Totals) (s : State) (rest : List Arrival) → t + k ≤ max_ticks → calls.Reached table s → s.progress.clock ≡ t → Small t u →
@@ -186,11 +191,11 @@ module _ (table : Table) (sized : length table.tasks ≡ max_tasks) (ok : passed
       let few : (ticked z).drops ≤ max_tasks = omega (arith, tick-few z, (table-facts z.table (fit-facts z kept.0).passes).count) in
       let on =
       ran k (suc t) (counted u (entry_by (ticked z).occupant (ticked z).drops)) (ran_by z (ticked z)).state (later t rest) (omega arith)
-      (subst (λ (x : Ticked). calls.Reached table x.state) e (calls.ticks due.reached))
+      (subst (λ (x : Called Ticked). calls.Reached table x.state) e (calls.ticks due.reached))
       (omega (arith, due.clock, c))
       (counted-small t u (ticked z).occupant (ticked z).drops (omega arith) small few) in
       subst
-      (λ (x : Ticked).
+      (λ (x : Called Ticked).
       Ran (suc k) t u (due_text t s rest ++ (tick_text t x.answer ++ ticks_text k (suc t) (answered u x.answer) x.state (later t rest))))
       (sym e)
       (more-ran k t u (ticked z).occupant (ticked z).drops (ticked z).finish (omega arith) small few due.lines on)
@@ -232,7 +237,7 @@ module _ {front : List ℕ} {sums : Figure → ℕ} (lines : Lines front sums) (
   unfolding split
   text-parted =
       ap (λ (w : List ℕ). split 10 (front ++ w)) (sym (append-nil (closing_text n u))) ∙ lines.parted (closing_text n u ++ [])
-      ∙ ap (in_front lines.lines) (line-parted last (refl, tt, tt, tt, tt, tt) [])
+      ∙ ap (in_front lines.lines) (line-parted last (refl, (tt, (tt, (tt, (tt, (tt, tt)))))) [])
 
   text-lines : lines_of text ≡ lines.lines ++ body_of last ∷ []
   text-lines = ap closed text-parted ∙ closed-last lines.lines (body_of last)
@@ -248,7 +253,7 @@ module _ {front : List ℕ} {sums : Figure → ℕ} (lines : Lines front sums) (
       ap (λ (w : List ℕ). decimal n ++ 44 ∷ (decimal u.idle ++ 44 ∷ (decimal u.tasks ++ 44 ∷ (decimal u.requests ++ 44 ∷ w))))
       (append-nil (decimal u.drops))
 
-  last-numbers : numbers (drop 2 (body_of last)) ≡ are (n ∷ u.idle ∷ u.tasks ∷ u.requests ∷ u.drops ∷ [])
+  last-numbers : numbers (drop 2 (body_of last)) ≡ Some (n ∷ u.idle ∷ u.tasks ∷ u.requests ∷ u.drops ∷ [])
   last-numbers =
       ap numbers last-fields
       ∙ fields_back n (u.idle ∷ u.tasks ∷ u.requests ∷ u.drops ∷ []) (small ticks, (small idle, (small rows, (small requests, small drops))))
@@ -284,42 +289,42 @@ none_yet requests = refl
 none_yet drops = refl
 
 -- an accepted plan: its last line says the sums over its X lines, of which there are as many as R has ticks
-module _ (bytes : List ℕ) (ok : (plan_of bytes).answer ≡ Answer.Accepted) where
+module _ (bytes : List ℕ) (p : Plan) (ok : plan_of bytes ≡ Ok p) where
   abbrev body : List ℕ
-  body = ticks_text (plan_of bytes).ticks 0 no_totals (set_up_call (plan_of bytes).table).state (arrivals_from bytes 0)
+  body = ticks_text p.ticks 0 no_totals (fresh_state p.table) (arrivals_from bytes 0)
 
   abbrev head : List ℕ
-  head = head_text (plan_of bytes).table.n (admission_call (plan_of bytes).table)
+  head = head_text p.table.n (admission_of p.table)
 
-  all-ran : Ran (plan_of bytes).ticks 0 no_totals body
+  all-ran : Ran p.ticks 0 no_totals body
   unfolding Small
   all-ran =
-      let keeps = accepted-keeps bytes ok in
-      ran (plan_of bytes).table keeps.sized keeps.passes (plan_of bytes).ticks 0 no_totals (set_up_call (plan_of bytes).table).state (arrivals_from bytes 0)
+      let keeps : Keeps p = IfOk-at_ok Keeps ok (accepted-keeps bytes) in
+      ran p.table keeps.sized keeps.passes p.ticks 0 no_totals (fresh_state p.table) (arrivals_from bytes 0)
       (omega (arith, keeps.ticks)) calls.started refl (λ f. omega (arith, none_yet f))
 
   -- all but the closing line
   abbrev front : List ℕ
   front = head ++ all-ran.front
 
-  printed : schedule_text bytes ≡ front ++ closing_text (0 + (plan_of bytes).ticks) all-ran.after
+  printed : schedule_text bytes ≡ front ++ closing_text (0 + p.ticks) all-ran.after
   unfolding schedule_text text_by
   printed =
-      ap (λ (a : Answer). text_by a (plan_of bytes) bytes) ok ∙ ap (λ (w : List ℕ). head ++ w) all-ran.parts
-      ∙ sym (append_assoc head all-ran.front (closing_text (0 + (plan_of bytes).ticks) all-ran.after))
+      ap (λ (a : Result Plan Rejection). text_by a bytes) ok ∙ ap (λ (w : List ℕ). head ++ w) all-ran.parts
+      ∙ sym (append_assoc head all-ran.front (closing_text (0 + p.ticks) all-ran.after))
 
   front-lines : Lines front all-ran.sums
-  front-lines = same-sums (then (head-printed (plan_of bytes).table.n (admission_call (plan_of bytes).table)) all-ran.lines) (λ f. omega arith)
+  front-lines = same-sums (then (head-printed p.table.n (admission_of p.table)) all-ran.lines) (λ f. omega arith)
 
-  front-counts : (f : Figure) → figure_of (0 + (plan_of bytes).ticks) all-ran.after f ≡ all-ran.sums f
+  front-counts : (f : Figure) → figure_of (0 + p.ticks) all-ran.after f ≡ all-ran.sums f
   front-counts f = omega (arith, all-ran.counts f, none_yet f)
 
-  figures-fit : (f : Figure) → figure_of (0 + (plan_of bytes).ticks) all-ran.after f ≤ max_number
+  figures-fit : (f : Figure) → figure_of (0 + p.ticks) all-ran.after f ≤ max_number
   unfolding Small
-  figures-fit f = omega (arith, all-ran.small f, (accepted-keeps bytes ok).ticks)
+  figures-fit f = omega (arith, all-ran.small f, (IfOk-at_ok Keeps ok (accepted-keeps bytes)).ticks)
 
-  pub schedule_totalled : Totalled (schedule_text bytes) (plan_of bytes).ticks
+  pub schedule_totalled : Totalled (schedule_text bytes) p.ticks
   schedule_totalled =
-      subst (λ (w : List ℕ). Totalled w (plan_of bytes).ticks) (sym printed)
-      (subst (Totalled (front ++ closing_text (0 + (plan_of bytes).ticks) all-ran.after)) (omega arith)
-      (text_totalled front-lines (0 + (plan_of bytes).ticks) all-ran.after front-counts figures-fit all-ran.balance))
+      subst (λ (w : List ℕ). Totalled w p.ticks) (sym printed)
+      (subst (Totalled (front ++ closing_text (0 + p.ticks) all-ran.after)) (omega arith)
+      (text_totalled front-lines (0 + p.ticks) all-ran.after front-counts figures-fit all-ran.balance))

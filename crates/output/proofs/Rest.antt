@@ -7,22 +7,18 @@ use mathlib.Core.List.{List, [], ◌∷◌, ◌++◌, append_assoc}
 use native.Mathlib.Omega.{arith}
 use Rattle.table.specs.declared.State.{State}
 use Rattle.rules.specs.Calls.{tick_call}
-use Rattle.fields.specs.declared.Arrival.{Arrival}
-use Rattle.plan.specs.declared.Next.{Next}
+use Rattle.plan.specs.declared.line.Arrival.{Arrival}
+use Rattle.std.specs.Prelude.{Option, Some, None}
 use Rattle.plan.specs.Plan.{arrivals_from, next_from, unrolled}
 use Rattle.plan.proofs.Arrivals.{walked}
-use Rattle.output.specs.declared.Place.{Place}
-use Rattle.output.specs.declared.Totals.{Totals}
+use Rattle.output.specs.Place.{Place}
+use Rattle.output.specs.declared.totals.Totals.{Totals}
 use Rattle.output.specs.Totals.{answered}
 use Rattle.output.specs.Output.{answer_text, tick_text, arrival_call, due_text, after_due, later, ticks_text}
 use Rattle.output.specs.Steps.{Step, presented, tick_run, step_from, steps_from, Taken, NotDue}
 use Rattle.output.proofs.Steps.{step-kinds}
 use Rattle.output.specs.Rest.{text_from}
-
--- no A line of tick t stands at the front
-abbrev pub NoneDue : ℕ → List Arrival → Type 0
-NoneDue t [] = Unit {0}
-NoneDue t (a ∷ rest) = a.tick ≡ t → ⊥
+use Rattle.output.specs.Coming.{NoneDue}
 
 join :
     (f : State → List Arrival → List ℕ) {x y : List ℕ} {s q : State} {cs bs : List Arrival} → x ≡ y → s ≡ q → cs ≡ bs → x ++ f s cs ≡ y ++ f q bs
@@ -83,18 +79,18 @@ module _ (k t : ℕ) (u : Totals) (s : State) where
   tick-first (a ∷ rest) h = opened s (a ∷ rest) ∙ join (tick_on k t u) (due_off t s a rest h) (after_off t s a rest h) (later_off t s a rest h)
 
 -- how many steps are left at most, one for each tick and each A line
-abbrev pub next_left : List ℕ → Next → ℕ
-next_left bytes (Next.Found a q) = suc (length bytes - q)
-next_left bytes Next.Done = 0
+abbrev pub next_left : List ℕ → Option (Arrival × ℕ) → ℕ
+next_left bytes (Some (a, q)) = suc (length bytes - q)
+next_left bytes None = 0
 
 unfoldable pub steps_left : List ℕ → ℕ → Place → ℕ
 steps_left bytes ticks p = (ticks - p.tick) + next_left bytes p.next
 
 -- ---- a step prints the front of that, and leaves fewer steps
-none-due : (n : Next) (t : ℕ) (bytes : List ℕ) → NotDue n t → NoneDue t (unrolled bytes n)
+none-due : (n : Option (Arrival × ℕ)) (t : ℕ) (bytes : List ℕ) → NotDue n t → NoneDue t (unrolled bytes n)
 unfolding unrolled
-none-due (Next.Found a q) t bytes h = h
-none-due Next.Done t bytes h = tt
+none-due (Some (a, q)) t bytes h = h
+none-due None t bytes h = tt
 
 module _ (bytes : List ℕ) (ticks : ℕ) (p : Place) where
   -- what is claimed of a step of the place p
@@ -106,7 +102,7 @@ module _ (bytes : List ℕ) (ticks : ℕ) (p : Place) where
   one_more : p.tick < ticks → ticks - p.tick ≡ suc (ticks - suc p.tick)
   one_more early = omega arith
 
-  module _ (early : p.tick < ticks) (a : Arrival) (q : ℕ) (found : p.next ≡ Next.Found a q) (due : a.tick ≡ p.tick) where
+  module _ (early : p.tick < ticks) (a : Arrival) (q : ℕ) (found : p.next ≡ Some (a, q)) (due : a.tick ≡ p.tick) where
     abbrev line : List ℕ
     line = (presented bytes p a q).text
 
@@ -123,9 +119,9 @@ module _ (bytes : List ℕ) (ticks : ℕ) (p : Place) where
         ∙ ap (λ (k : ℕ). line ++ ticks_text k p.tick p.totals (arrival_call p.state a).state (arrivals_from bytes q)) (sym (one_more early))
         ∙ ap (λ (r : List Arrival). line ++ ticks_text (ticks - p.tick) p.tick p.totals (arrival_call p.state a).state r) (walked bytes q).left
 
-    next-fewer : (r : Next) → ((b : Arrival) (z : ℕ) → r ≡ Next.Found b z → (q < z) × (z ≤ length bytes)) → next_left bytes r < suc (length bytes - q)
-    next-fewer (Next.Found b z) f = let g = f b z refl in omega arith
-    next-fewer Next.Done f = omega arith
+    next-fewer : (r : Option (Arrival × ℕ)) → ((b : Arrival) (z : ℕ) → r ≡ Some (b, z) → (q < z) × (z ≤ length bytes)) → next_left bytes r < suc (length bytes - q)
+    next-fewer (Some (b, z)) f = let g = f b z refl in omega arith
+    next-fewer None f = omega arith
 
     presented-fewer : steps_left bytes ticks (presented bytes p a q).place < steps_left bytes ticks p
     unfolding steps_left

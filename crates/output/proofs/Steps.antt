@@ -7,9 +7,9 @@ use Rattle.std.proofs.Common.{sym, subst, ◌∙◌, eq-eqb, ne_eqb, eqb-true, l
 use mathlib.Core.List.{List, append-nil, append_assoc}
 use Rattle.std.proofs.lemmas.Bool.{eqb-false, lt-leb}
 use Rattle.text.specs.Buffer.{then, nothing_written, wrote_length}
-use Rattle.fields.specs.declared.Arrival.{Arrival}
-use Rattle.plan.specs.declared.Next.{Next}
-use Rattle.output.specs.declared.Place.{Place}
+use Rattle.plan.specs.declared.line.Arrival.{Arrival}
+use Rattle.std.specs.Prelude.{Option, Some, None}
+use Rattle.output.specs.Place.{Place}
 use Rattle.output.specs.Steps.{NotDue, Step, Stepped, Taken, and_then, no_step, presented, step_by, step_from, steps_from, tick_run}
 
 -- ---- which step a place has
@@ -22,35 +22,35 @@ module _ (bytes : List ℕ) (ticks : ℕ) (p : Place) where
   unfolding step_from
   step-early h = rw (lt-leb ticks p.tick h) refl
 
-  step-due : p.tick < ticks → (a : Arrival) (q : ℕ) → p.next ≡ Next.Found a q → a.tick ≡ p.tick → step_from bytes ticks p ≡ presented bytes p a q
+  step-due : p.tick < ticks → (a : Arrival) (q : ℕ) → p.next ≡ Some (a, q) → a.tick ≡ p.tick → step_from bytes ticks p ≡ presented bytes p a q
   step-due early a q found due = step-early early ∙ ap (step_by bytes p) found ∙ rw (eq-eqb a.tick p.tick due) refl
 
   pub step-tick : p.tick < ticks → NotDue p.next p.tick → step_from bytes ticks p ≡ tick_run p
   step-tick early idle = step-early early ∙ by p.next idle
     where
-      by : (n : Next) → NotDue n p.tick → step_by bytes p n ≡ tick_run p
-      by (Next.Found a q) h = rw (ne_eqb a.tick p.tick h) refl
-      by Next.Done h = refl
+      by : (n : Option (Arrival × ℕ)) → NotDue n p.tick → step_by bytes p n ≡ tick_run p
+      by (Some (a, q)) h = rw (ne_eqb a.tick p.tick h) refl
+      by None h = refl
 
   -- what holds of each kind of step holds of the place's step
   pub step-kinds :
       (F : Step → Type 0) → (ticks ≤ p.tick → F (no_step p)) →
-      ((a : Arrival) (q : ℕ) → p.tick < ticks → p.next ≡ Next.Found a q → a.tick ≡ p.tick → F (presented bytes p a q)) →
+      ((a : Arrival) (q : ℕ) → p.tick < ticks → p.next ≡ Some (a, q) → a.tick ≡ p.tick → F (presented bytes p a q)) →
       (p.tick < ticks → NotDue p.next p.tick → F (tick_run p)) → F (step_from bytes ticks p)
   step-kinds F none due run = by (leb ticks p.tick) refl
     where
-      found : (early : p.tick < ticks) (a : Arrival) (q : ℕ) (b : Bool) → p.next ≡ Next.Found a q → eqb a.tick p.tick ≡ b → F (step_from bytes ticks p)
+      found : (early : p.tick < ticks) (a : Arrival) (q : ℕ) (b : Bool) → p.next ≡ Some (a, q) → eqb a.tick p.tick ≡ b → F (step_from bytes ticks p)
       found early a q true e f =
           let d = eqb-true a.tick p.tick f in
           subst F (sym (step-due early a q e d)) (due a q early e d)
       found early a q false e f =
-          let d = subst (λ (n : Next). NotDue n p.tick) (sym e) (eqb-false a.tick p.tick f) in
+          let d = subst (λ (n : Option (Arrival × ℕ)). NotDue n p.tick) (sym e) (eqb-false a.tick p.tick f) in
           subst F (sym (step-tick early d)) (run early d)
 
-      next : (early : p.tick < ticks) (n : Next) → p.next ≡ n → F (step_from bytes ticks p)
-      next early (Next.Found a q) e = found early a q (eqb a.tick p.tick) e refl
-      next early Next.Done e =
-          let d = subst (λ (n : Next). NotDue n p.tick) (sym e) tt in
+      next : (early : p.tick < ticks) (n : Option (Arrival × ℕ)) → p.next ≡ n → F (step_from bytes ticks p)
+      next early (Some (a, q)) e = found early a q (eqb a.tick p.tick) e refl
+      next early None e =
+          let d = subst (λ (n : Option (Arrival × ℕ)). NotDue n p.tick) (sym e) tt in
           subst F (sym (step-tick early d)) (run early d)
 
       by : (b : Bool) → leb ticks p.tick ≡ b → F (step_from bytes ticks p)
@@ -108,7 +108,7 @@ module _ (bytes : List ℕ) (ticks : ℕ) {l m : List ℕ} {at r : ℕ} (p : Pla
   tick-taken early idle h = one-taken (taken-same (sym (step-tick bytes ticks p early idle)) h)
 
   pub presented-taken :
-      p.tick < ticks → (a : Arrival) (z : ℕ) → p.next ≡ Next.Found a z → a.tick ≡ p.tick → Taken (presented bytes p a z) l at m r q →
+      p.tick < ticks → (a : Arrival) (z : ℕ) → p.next ≡ Some (a, z) → a.tick ≡ p.tick → Taken (presented bytes p a z) l at m r q →
       Stepped bytes ticks l at p m r q
   presented-taken early a z found due h = one-taken (taken-same (sym (step-due bytes ticks p early a z found due)) h)
 

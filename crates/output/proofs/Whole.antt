@@ -1,59 +1,56 @@
--- What the functions of `heading` and of this crate write into the buffers that they are lent is, in order, schedule_text: the Z line of a
--- refused plan; the head of an accepted one, then its filled buffers and the closing line. (That `schedule` hands these bytes to its writer is
--- proved there; that standard output passes them on is tested.)
-use Rattle.std.specs.Prelude.{ℕ, ◌-◌, ◌≡◌, ◌<◌, ◌≤◌, refl, length, take}
+-- The text of a plan, whole: the Z line of a refused one; of an accepted one its head, then its filled buffers and the closing line.
+use Rattle.std.specs.Prelude.{ℕ, ◌-◌, ◌≡◌, ◌<◌, ◌≤◌, refl, length, take, Result, Ok, Err}
 use Rattle.std.proofs.Common.{sym, ◌∙◌, lt-ltb}
 use Rattle.std.proofs.Math.Path.{ap}
 use mathlib.Core.List.{List, ◌++◌}
 use native.Mathlib.Omega.{arith}
-use Rattle.table.specs.State.{set_up_call}
-use Rattle.bounds.specs.Admission.{admission_call}
+use Rattle.table.specs.State.{fresh_state}
+use Rattle.bounds.specs.Admission.{admission_of}
 use Rattle.text.specs.Buffer.{Wrote, if_room, has_room, front}
 use Rattle.text.specs.Lines.{line_bytes}
 use Rattle.lines.specs.Lines.{plan_refused_line}
-use Rattle.fields.specs.declared.Arrival.{Arrival}
-use Rattle.plan.specs.declared.Answer.{Answer}
-use Rattle.plan.specs.declared.Plan.{Plan}
-use Rattle.plan.specs.declared.PlanRefusal.{PlanRefusal}
+use Rattle.plan.specs.declared.line.Arrival.{Arrival}
+use Rattle.plan.specs.declared.reading.Plan.{Plan}
+use Rattle.plan.specs.declared.refusal.PlanRefusal.{PlanRefusal}
+use Rattle.plan.specs.declared.refusal.Rejection.{Rejection}
 use Rattle.plan.specs.Refusal.{number}
-use Rattle.plan.specs.Plan.{max_bytes, plan_of, refused_plan, next_from, unrolled}
+use Rattle.plan.specs.Plan.{max_bytes, plan_of, next_from, unrolled}
 use Rattle.plan.proofs.Arrivals.{walked}
 use Rattle.heading.specs.Heading.{head_text}
-use Rattle.output.specs.declared.Place.{Place}
+use Rattle.output.specs.Place.{Place}
 use Rattle.output.specs.Totals.{no_totals, closing_text}
 use Rattle.output.specs.Output.{ticks_text, text_by, schedule_text}
 use Rattle.output.specs.Steps.{first_place}
 use Rattle.output.specs.Rest.{text_from}
 use Rattle.output.proofs.Pieces.{Fills, joined, pieces_whole}
 
--- a refused plan: what `refused` writes
+-- a refused plan
 pub refused-whole :
-    (bytes : List ℕ) (k : PlanRefusal) → (plan_of bytes).answer ≡ Answer.Refused k →
-    schedule_text bytes ≡ line_bytes (plan_refused_line (number k) (plan_of bytes).line)
+    (bytes : List ℕ) (r : Rejection) → plan_of bytes ≡ Err r →
+    schedule_text bytes ≡ line_bytes (plan_refused_line (number r.refusal) r.line)
 unfolding schedule_text text_by
-refused-whole bytes k e = ap (λ (a : Answer). text_by a (plan_of bytes) bytes) e
+refused-whole bytes r e = ap (λ (a : Result Plan Rejection). text_by a bytes) e
 
 -- an accepted plan
-module _ (bytes : List ℕ) (ok : (plan_of bytes).answer ≡ Answer.Accepted) where
-  -- what `head` writes
+module _ (bytes : List ℕ) (p : Plan) (ok : plan_of bytes ≡ Ok p) where
+  -- its head
   abbrev pub top : List ℕ
-  top = head_text (plan_of bytes).table.n (admission_call (plan_of bytes).table)
+  top = head_text p.table.n (admission_of p.table)
 
-  -- what is to be printed from the place that `first` gives
+  -- what is to be printed from the first place on
   abbrev pub rest : List ℕ
-  rest = text_from bytes (plan_of bytes).ticks (first_place bytes (plan_of bytes).table)
+  rest = text_from bytes p.ticks (first_place bytes p.table)
 
   pub accepted-whole : schedule_text bytes ≡ top ++ rest
   unfolding schedule_text text_by text_from first_place
   accepted-whole =
-      let all : (plan_of bytes).ticks ≡ (plan_of bytes).ticks - 0 = omega arith in
-      ap (λ (a : Answer). text_by a (plan_of bytes) bytes) ok
-      ∙ ap (λ (r : List Arrival). top ++ ticks_text (plan_of bytes).ticks 0 no_totals (set_up_call (plan_of bytes).table).state r) (walked bytes 0).left
-      ∙ ap (λ (k : ℕ). top ++ ticks_text k 0 no_totals (set_up_call (plan_of bytes).table).state (unrolled bytes (next_from bytes 0))) all
+      let all : p.ticks ≡ p.ticks - 0 = omega arith in
+      ap (λ (a : Result Plan Rejection). text_by a bytes) ok
+      ∙ ap (λ (r : List Arrival). top ++ ticks_text p.ticks 0 no_totals (fresh_state p.table) r) (walked bytes 0).left
+      ∙ ap (λ (k : ℕ). top ++ ticks_text k 0 no_totals (fresh_state p.table) (unrolled bytes (next_from bytes 0))) all
 
   -- the head, then the filled buffers up to the last tick, then the closing line
-  pub schedule_whole :
-      {ps : List (List ℕ)} → Fills bytes (plan_of bytes).ticks (first_place bytes (plan_of bytes).table) ps → top ++ joined ps ≡ schedule_text bytes
+  pub schedule_whole : {ps : List (List ℕ)} → Fills bytes p.ticks (first_place bytes p.table) ps → top ++ joined ps ≡ schedule_text bytes
   schedule_whole ps = ap (λ (x : List ℕ). top ++ x) (pieces_whole ps) ∙ sym accepted-whole
 
 -- ---- for whoever hands the bytes on
@@ -68,10 +65,9 @@ closing_left bytes ticks p h = let none : ticks - p.tick ≡ 0 = omega arith in 
 
 -- every text that is too long prints the same
 too_long : (bytes : List ℕ) → max_bytes < length bytes → schedule_text bytes ≡ line_bytes (plan_refused_line (number PlanRefusal.TooLong) 0)
-unfolding plan_of refused_plan
+unfolding plan_of
 too_long bytes h =
-    let e : plan_of bytes ≡ refused_plan PlanRefusal.TooLong 0 = simp (lt-ltb _ _ h) in
-    refused-whole bytes PlanRefusal.TooLong (ap (λ (p : Plan). p.answer) e) ∙ ap (λ (p : Plan). line_bytes (plan_refused_line (number PlanRefusal.TooLong) p.line)) e
+    refused-whole bytes (record { refusal = PlanRefusal.TooLong; line = 0 }) (simp (lt-ltb _ _ h))
 
 pub too_long_alike : (x y : List ℕ) → max_bytes < length x → max_bytes < length y → schedule_text x ≡ schedule_text y
 too_long_alike x y h k = too_long x h ∙ sym (too_long y k)

@@ -2,11 +2,8 @@
 use Rattle.std.specs.Prelude.{ℕ, ◌≡◌, refl, List, [], ◌∷◌}
 use Rattle.lists.specs.Lists.{overlay}
 use Rattle.text.specs.Cases as text
-use Rattle.plan.specs.declared.Next.{Next}
 use Rattle.plan.specs.Plan as plan
-use Rattle.plan.specs.Plan.{plan_of}
 use Rattle.output.specs.Output.{schedule_text, rules}
-use Rattle.output.specs.Steps.{Step, first_place, step_from, steps_from}
 use Rattle.output.specs.Printed as printed
 use Rattle.output.specs.Printed.{over_x}
 
@@ -32,30 +29,11 @@ unfolding rules text.rules plan.rules overlay
 no_ticks = refl
 
 -- an A line at the end, of tick 1 in a plan of one tick, is not presented
-abbrev one_tick : List ℕ
-one_tick = 84 ∷ 44 ∷ 51 ∷ 44 ∷ 54 ∷ 44 ∷ 50 ∷ 44 ∷ 54 ∷ 10 ∷ 83 ∷ 44 ∷ 48 ∷ 44 ∷ 49 ∷ 44 ∷ 48 ∷ 44 ∷ 48 ∷ 10 ∷ 65 ∷ 44 ∷ 49 ∷ 44 ∷ 55 ∷ 44 ∷ 52 ∷ 10 ∷ 82 ∷ 44 ∷ 49 ∷ 10 ∷ []
-
 at_the_end :
-    schedule_text one_tick ≡
+    schedule_text (84 ∷ 44 ∷ 51 ∷ 44 ∷ 54 ∷ 44 ∷ 50 ∷ 44 ∷ 54 ∷ 10 ∷ 83 ∷ 44 ∷ 48 ∷ 44 ∷ 49 ∷ 44 ∷ 48 ∷ 44 ∷ 48 ∷ 10 ∷ 65 ∷ 44 ∷ 49 ∷ 44 ∷ 55 ∷ 44 ∷ 52 ∷ 10 ∷ 82 ∷ 44 ∷ 49 ∷ 10 ∷ []) ≡
     66 ∷ 44 ∷ 48 ∷ 44 ∷ 50 ∷ 10 ∷ 66 ∷ 44 ∷ 83 ∷ 44 ∷ 48 ∷ 10 ∷ 86 ∷ 44 ∷ 49 ∷ 10 ∷ 88 ∷ 44 ∷ 48 ∷ 44 ∷ 73 ∷ 44 ∷ 48 ∷ 44 ∷ 48 ∷ 10 ∷ 69 ∷ 44 ∷ 49 ∷ 44 ∷ 49 ∷ 44 ∷ 48 ∷ 44 ∷ 48 ∷ 44 ∷ 48 ∷ 10 ∷ []
 unfolding rules text.rules plan.rules overlay
 at_the_end = refl
-
--- some steps from the start of that plan, of as many ticks as are asked for
-abbrev begun : ℕ → ℕ → Step
-begun ticks n = steps_from one_tick ticks n (first_place one_tick (plan_of one_tick).table)
-
--- of one tick: five steps are that tick and then nothing, and the A line still stands to be presented
-end_stays :
-    ((begun 1 5).place.tick ≡ 1) × ((begun 1 5).place.next ≡ Next.Found (record { tick = 1; id = 7; work = 4 }) 28)
-    × ((begun 1 5).text ≡ 88 ∷ 44 ∷ 48 ∷ 44 ∷ 73 ∷ 44 ∷ 48 ∷ 44 ∷ 48 ∷ 10 ∷ [])
-unfolding rules text.rules plan.rules overlay first_place step_from steps_from
-end_stays = (refl, refl, refl)
-
--- of two: the second step presents the A line, before its tick, and the third is that tick
-arrival-steps : ((begun 2 2).place.tick ≡ 1) × ((begun 2 2).place.next ≡ Next.Done) × ((begun 2 3).place.tick ≡ 2)
-unfolding rules text.rules plan.rules overlay first_place step_from steps_from
-arrival-steps = (refl, refl, refl)
 
 -- three tasks, a table that is not admitted: a tick with two drops and three releases
 two-drops :

@@ -1,9 +1,12 @@
-pub mod Rooms
 pub mod Totals
+pub mod Coming
 pub mod Output
-pub mod Steps
-pub mod Rest
-pub mod Pieces
-pub mod Blocks
 pub mod Printed
 pub mod Cases
+pub mod Place
+pub mod Rooms
+pub mod Steps
+pub mod Blocks
+pub mod Pieces
+pub mod Rest
+pub mod StepCases

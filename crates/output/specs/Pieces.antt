@@ -1,11 +1,11 @@
--- A buffer of the output, filled.
+-- A buffer filled with steps of that text, for the laws of its pieces.
 use Prim.Native.Nat.{ℕ, ◌+◌, ◌≤◌, ◌<◌}
 use Rattle.std.specs.Prelude.{List, ◌⊎◌, length}
 use Rattle.output.specs.Rooms.{step_room}
-use Rattle.output.specs.declared.Place.{Place}
+use Rattle.output.specs.Place.{Place}
 use Rattle.output.specs.Steps.{steps_from, Taken}
 
--- A filled buffer. How many steps one call takes is left free, and nothing else: they are taken from p on, into the buffer from its start,
+-- A filled buffer. How many steps it holds is left free, and nothing else: they are taken from p on, into the buffer from its start,
 -- and lead to q; they stop where no tick is left or a further step might not fit; and if a step fits at all, there is one.
 pub record Filled (bytes : List ℕ) (ticks : ℕ) (l : List ℕ) (p : Place) (m : List ℕ) (r : ℕ) (q : Place) : Type 0 where
   pub steps : ℕ

@@ -1,9 +1,9 @@
 -- What is printed, read back from its bytes: its lines, their fields, and the sums over its X lines.
-use Rattle.std.specs.Prelude.{ℕ, ◌+◌, ◌≡◌, Bool, cond, ◌&&◌, List, [], ◌∷◌, length, get_or, take, drop, eqb}
+use Rattle.std.specs.Prelude.{ℕ, ◌+◌, ◌≡◌, Bool, cond, ◌&&◌, List, [], ◌∷◌, length, get_or, take, drop, eqb, Some}
 use Rattle.lists.specs.Numbers.{bit_of}
 use Rattle.text.specs.Decimal.{value_from}
-use Rattle.fields.specs.Text.{Pieces, end, piece, split}
-use Rattle.fields.specs.Lines.{are, numbers}
+use Rattle.plan.specs.Text.{Pieces, end, piece, split}
+use Rattle.plan.specs.Lines.{numbers}
 
 -- "each line closed by a line feed": the lines of a text, without it, and what follows the last one
 abbrev pub closed : Pieces → List (List ℕ)
@@ -69,6 +69,6 @@ pub record Totalled (text : List ℕ) (n : ℕ) : Type 0 where
   pub letter : take 2 (last_of (lines_of text)) ≡ 69 ∷ 44 ∷ []
   pub figures :
       numbers (drop 2 (last_of (lines_of text))) ≡
-      are (over_x ticks text ∷ over_x idle text ∷ over_x rows text ∷ over_x requests text ∷ over_x drops text ∷ [])
+      Some (over_x ticks text ∷ over_x idle text ∷ over_x rows text ∷ over_x requests text ∷ over_x drops text ∷ [])
   pub sum : over_x idle text + over_x rows text + over_x requests text ≡ over_x ticks text
   pub all : over_x ticks text ≡ n

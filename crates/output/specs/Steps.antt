@@ -1,21 +1,21 @@
--- The printing, step by step: where it stands after some steps, and what they print.
+-- The text of a plan's ticks, step by step: where it stands after some steps, and what they print. No function prints by steps; laws speak of them.
 use Prim.Native.Nat.{ℕ, zero, suc, ◌+◌, ◌≤◌, ◌<◌}
 use Rattle.std.specs.Prelude.{◌≡◌, cond, length, eqb, leb}
 use mathlib.Core.List.{List, [], ◌++◌}
 use Rattle.table.specs.declared.Table.{Table}
-use Rattle.table.specs.State.{set_up_call}
+use Rattle.table.specs.State.{fresh_state}
 use Rattle.rules.specs.Calls.{tick_call}
 use Rattle.text.specs.Buffer.{Wrote}
-use Rattle.fields.specs.declared.Arrival.{Arrival}
-use Rattle.plan.specs.declared.Next.{Next}
+use Rattle.plan.specs.declared.line.Arrival.{Arrival}
+use Rattle.std.specs.Prelude.{Option, Some, None}
 use Rattle.plan.specs.Plan.{next_from}
-use Rattle.output.specs.declared.Place.{Place}
+use Rattle.output.specs.Place.{Place}
 use Rattle.output.specs.Totals.{no_totals, answered}
 use Rattle.output.specs.Output.{answer_text, tick_text, arrival_call}
 
 -- where the printing of an accepted plan starts
 unfoldable pub first_place : List ℕ → Table → Place
-first_place bytes table = record { tick = 0; next = next_from bytes 0; state = (set_up_call table).state; totals = no_totals }
+first_place bytes table = record { tick = 0; next = next_from bytes 0; state = fresh_state table; totals = no_totals }
 
 -- a step: the place after it, and what it prints
 pub record Step : Type 0 where
@@ -46,9 +46,9 @@ tick_run p = record {
 }
 
 -- the step of a place before the last tick: the next A line is presented if it is due, or else the tick is run
-abbrev pub step_by : List ℕ → Place → Next → Step
-step_by bytes p (Next.Found a q) = cond (eqb a.tick p.tick) (presented bytes p a q) (tick_run p)
-step_by bytes p Next.Done = tick_run p
+abbrev pub step_by : List ℕ → Place → Option (Arrival × ℕ) → Step
+step_by bytes p (Some (a, q)) = cond (eqb a.tick p.tick) (presented bytes p a q) (tick_run p)
+step_by bytes p None = tick_run p
 
 -- the step of a place: none where no tick is left
 unfoldable pub step_from : List ℕ → ℕ → Place → Step
@@ -76,6 +76,6 @@ pub record Stepped (bytes : List ℕ) (ticks : ℕ) (l : List ℕ) (at : ℕ) (p
   pub taken : Taken (steps_from bytes ticks steps p) l at m r q
 
 -- the next A line, if there is one, is not due at tick t
-abbrev pub NotDue : Next → ℕ → Type 0
-NotDue (Next.Found a q) t = a.tick ≡ t → ⊥
-NotDue Next.Done t = Unit {0}
+abbrev pub NotDue : Option (Arrival × ℕ) → ℕ → Type 0
+NotDue (Some (a, q)) t = a.tick ≡ t → ⊥
+NotDue None t = Unit {0}

@@ -1,12 +1,13 @@
 -- What is counted of the ticks, and the line that says it.
-use Rattle.std.specs.Prelude.{ℕ, List, [], ◌∷◌, eqb, ltb}
+use Rattle.std.specs.Prelude.{ℕ, List, eqb, ltb, Ok, Err, Result}
 use Rattle.lists.specs.Numbers.{bit_of, capped_sum}
-use Rattle.rules.specs.declared.TickAnswer.{TickAnswer}
+use Rattle.table.specs.declared.Refusal.{Refusal}
+use Rattle.rules.specs.declared.Ticked.{Ticked}
 use Rattle.rules.specs.declared.Entry.{Entry}
 use Rattle.rules.specs.Calls.{entry_by}
 use Rattle.text.specs.Lines.{line_bytes}
 use Rattle.lines.specs.Lines.{totals_line}
-use Rattle.output.specs.declared.Totals.{Totals}
+use Rattle.output.specs.declared.totals.Totals.{Totals}
 
 -- of no tick
 abbrev pub no_totals : Totals
@@ -24,14 +25,9 @@ counted t e = record {
 }
 
 -- with the tick of an answer; a refused one prints no X line
-abbrev pub answered : Totals → TickAnswer → Totals
-answered t (TickAnswer.Ran o drops f) = counted t (entry_by o drops)
-answered t (TickAnswer.Refused r) = t
-
--- with the ticks of a record
-unfoldable pub block_totals : Totals → List Entry → Totals
-block_totals t [] = t
-block_totals t (e ∷ es) = block_totals (counted t e) es
+abbrev pub answered : Totals → Result Ticked Refusal → Totals
+answered t (Ok x) = counted t (entry_by x.occupant x.drops)
+answered t (Err r) = t
 
 -- 02: "`schedule` shall end with `E,ticks,idle,rows,requests,drops`"
 abbrev pub closing_text : ℕ → Totals → List ℕ

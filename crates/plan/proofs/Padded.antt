@@ -1,16 +1,17 @@
 -- A plan whose fields are padded is the same plan: the same answer and line, the same table, the same ticks, the same A lines.
-use Rattle.std.specs.Prelude.{ℕ, suc, ◌≤◌, ◌≡◌, refl, Bool, true, false, cond, List, [], ◌∷◌, length, eqb}
+use Rattle.std.specs.Prelude.{ℕ, suc, ◌≤◌, ◌≡◌, refl, Bool, true, false, Option, List, [], ◌∷◌, length, ◌==◌, if◌then◌else◌}
 use Rattle.std.proofs.Common.{sym, ap, ◌∙◌, subst, arith, eqb-true, le-ltb}
 use Rattle.lists.specs.Tests.{either}
 use Rattle.server.specs.declared.Server.{Server}
 use Rattle.table.specs.declared.Task.{Task}
-use Rattle.fields.specs.declared.Arrival.{Arrival}
-use Rattle.fields.specs.declared.Line.{Line}
-use Rattle.fields.specs.Text.{Pieces, end, piece, grow, split}
-use Rattle.fields.specs.Lines.{line_of}
-use Rattle.fields.specs.Padded.{zeros, leading, allowed, padded, length_zeros, first_of, on_first, first-zeros, leading-first, line-padded}
-use Rattle.plan.specs.declared.PlanRefusal.{PlanRefusal}
-use Rattle.plan.specs.declared.Reading.{Reading}
+use Rattle.plan.specs.declared.line.Arrival.{Arrival}
+use Rattle.plan.specs.declared.line.Line.{Line}
+use Rattle.plan.specs.Text.{Pieces, end, piece, grow, split}
+use Rattle.plan.specs.Lines.{line_of}
+use Rattle.plan.specs.LinePadded.{zeros, leading, allowed, padded}
+use Rattle.plan.proofs.LinePadded.{length_zeros, first_of, on_first, first-zeros, leading-first, line-padded}
+use Rattle.plan.specs.declared.refusal.PlanRefusal.{PlanRefusal}
+use Rattle.plan.specs.declared.reading.Reading.{Reading}
 use Rattle.plan.specs.Plan.{fresh_reading, judged, moved, refused_plan, ending, or_else, reads, max_bytes, plan_of, arrival_in, arrivals, arrivals_from}
 use Rattle.plan.proofs.PlanBack.{Back}
 
@@ -53,7 +54,7 @@ on-comma : (k : ℕ) (l m : List ℕ) → AlikeLine l m → AlikeLine (44 ∷ l)
 unfolding padded
 on-comma k l m (js, q) = (k ∷ js, ap (λ (x : List ℕ). 44 ∷ zeros (allowed k (leading l)) x) q)
 
-on-other : (b : ℕ) → eqb b 44 ≡ false → (l m : List ℕ) → AlikeLine l m → AlikeLine (b ∷ l) (b ∷ m)
+on-other : (b : ℕ) → (b == 44) ≡ false → (l m : List ℕ) → AlikeLine l m → AlikeLine (b ∷ l) (b ∷ m)
 unfolding padded
 on-other b e l m ([], q) = ([], ap (λ (x : List ℕ). b ∷ x) q)
 on-other b e l m (j ∷ js, q) = (j ∷ js, rw e (ap (λ (x : List ℕ). b ∷ x) q))
@@ -62,7 +63,7 @@ alike : (ks l : List ℕ) → Alike (split 10 l) (split 10 (padded ks l))
 unfolding padded split
 alike [] l = alike_itself (split 10 l)
 alike (k ∷ ks) [] = ([], refl)
-alike (k ∷ ks) (b ∷ l) = by (eqb b 44) refl (alike ks l) (alike (k ∷ ks) l)
+alike (k ∷ ks) (b ∷ l) = by (b == 44) refl (alike ks l) (alike (k ∷ ks) l)
   where
     first : List ℕ → List ℕ
     first m = first_of (split 10 m)
@@ -72,15 +73,15 @@ alike (k ∷ ks) (b ∷ l) = by (eqb b 44) refl (alike ks l) (alike (k ∷ ks) l
         subst (λ (n : ℕ). AlikeLine (44 ∷ first l) (44 ∷ zeros (allowed k n) (first (padded ks l)))) (leading-first 10 (omega arith) l)
         (on-comma k (first l) (first (padded ks l)) a)) behind
 
-    other : eqb b 44 ≡ false → (d : Bool) → Alike (split 10 l) (split 10 (padded (k ∷ ks) l)) →
-        Alike (cond d (piece [] (split 10 l)) (grow b (split 10 l))) (cond d (piece [] (split 10 (padded (k ∷ ks) l))) (grow b (split 10 (padded (k ∷ ks) l))))
+    other : (b == 44) ≡ false → (d : Bool) → Alike (split 10 l) (split 10 (padded (k ∷ ks) l)) →
+        Alike (if d then piece [] (split 10 l) else grow b (split 10 l)) (if d then piece [] (split 10 (padded (k ∷ ks) l)) else grow b (split 10 (padded (k ∷ ks) l)))
     other e true further = (([], refl), further)
     other e false further = alike_byte b 0 l (padded (k ∷ ks) l) (on-other b e (first l) (first (padded (k ∷ ks) l))) further
 
-    by : (d : Bool) → eqb b 44 ≡ d → Alike (split 10 l) (split 10 (padded ks l)) → Alike (split 10 l) (split 10 (padded (k ∷ ks) l)) →
-        Alike (split 10 (b ∷ l)) (split 10 (cond d (b ∷ zeros (allowed k (leading l)) (padded ks l)) (b ∷ padded (k ∷ ks) l)))
+    by : (d : Bool) → (b == 44) ≡ d → Alike (split 10 l) (split 10 (padded ks l)) → Alike (split 10 l) (split 10 (padded (k ∷ ks) l)) →
+        Alike (split 10 (b ∷ l)) (split 10 (if d then b ∷ zeros (allowed k (leading l)) (padded ks l) else b ∷ padded (k ∷ ks) l))
     by true e behind further = rw (eqb-true b 44 e) (comma behind)
-    by false e behind further = other e (eqb b 10) further
+    by false e behind further = other e (b == 10) further
 
 -- ---- what is read of alike lines
 same_line : (l m : List ℕ) → AlikeLine l m → line_of m ≡ line_of l
@@ -90,9 +91,9 @@ same-ending : (st : Reading) (line : ℕ) (l m : List ℕ) → AlikeLine l m →
 unfolding ending padded
 same-ending st line l m ([], q) = ap (ending st line) q
 same-ending st line [] m (j ∷ js, q) = ap (ending st line) q
-same-ending st line (x ∷ l) m (j ∷ js, q) = ap (ending st line) q ∙ by (eqb x 44) (zeros (allowed j (leading l)) (padded js l)) (padded (j ∷ js) l)
+same-ending st line (x ∷ l) m (j ∷ js, q) = ap (ending st line) q ∙ by (x == 44) (zeros (allowed j (leading l)) (padded js l)) (padded (j ∷ js) l)
   where
-    by : (d : Bool) (y z : List ℕ) → ending st line (cond d (x ∷ y) (x ∷ z)) ≡ refused_plan PlanRefusal.BadLine line
+    by : (d : Bool) (y z : List ℕ) → ending st line (if d then x ∷ y else x ∷ z) ≡ refused_plan PlanRefusal.BadLine line
     by true y z = refl
     by false y z = refl
 
@@ -102,8 +103,8 @@ same_reads st line (end l) (end m) a = same-ending st line l m a
 same_reads st line (end l) (piece m ms) a = absurd a
 same_reads st line (piece l ls) (end m) a = absurd a
 same_reads st line (piece l ls) (piece m ms) a =
-    ap (λ (x : Line). or_else (judged st.stage st.tick x) line (reads (moved st x) (suc line) ms)) (same_line l m a.0)
-    ∙ ap (or_else (judged st.stage st.tick (line_of l)) line) (same_reads (moved st (line_of l)) (suc line) ls ms a.1)
+    ap (λ (x : Option Line). or_else (judged st.stage x) line (reads (moved st x) (suc line) ms)) (same_line l m a.0)
+    ∙ ap (or_else (judged st.stage (line_of l)) line) (same_reads (moved st (line_of l)) (suc line) ls ms a.1)
 
 same-arrivals : (ps qs : Pieces) → Alike ps qs → arrivals qs ≡ arrivals ps
 unfolding arrivals
@@ -111,7 +112,7 @@ same-arrivals (end l) (end m) a = refl
 same-arrivals (end l) (piece m ms) a = absurd a
 same-arrivals (piece l ls) (end m) a = absurd a
 same-arrivals (piece l ls) (piece m ms) a =
-    ap (λ (x : Line). arrival_in x (arrivals ms)) (same_line l m a.0) ∙ ap (arrival_in (line_of l)) (same-arrivals ls ms a.1)
+    ap (λ (x : Option Line). arrival_in x (arrivals ms)) (same_line l m a.0) ∙ ap (arrival_in (line_of l)) (same-arrivals ls ms a.1)
 
 -- ---- the whole
 longer : (ks l : List ℕ) → length l ≤ length (padded ks l)
@@ -119,7 +120,7 @@ unfolding padded
 longer [] l = omega arith
 longer (k ∷ ks) [] = omega arith
 longer (k ∷ ks) (b ∷ l) =
-    either (λ (m : List ℕ). suc (length l) ≤ length m) (eqb b 44)
+    either (λ (m : List ℕ). suc (length l) ≤ length m) (b == 44)
     (omega (arith, longer ks l, length_zeros (allowed k (leading l)) (padded ks l))) (omega (arith, longer (k ∷ ks) l))
 
 -- 02: "Every line kind reads by the same number rule"; "7 plan too long" is asked of the padded bytes

@@ -1,67 +1,52 @@
--- Laws of a plan's lines: whether a line may stand, and one turn of the check.
-use Prim.Native.Nat.{ℕ, suc, ◌+◌, ◌-◌, ◌≤◌, ◌<◌}
-use mathlib.Core.Path.{◌≡◌, refl, sym, ap, ◌∙◌}
-use mathlib.Core.List.{List}
-use native.Mathlib.Omega.{arith}
-use native.Mathlib.Numerals.{add-one}
-use borrow.Author.Tests.{lt-ltb, le-ltb}
-use lib.ListN.{length, take, drop, length-drop, drop_of_length-le}
-use lib.Seq.{drop-cons}
-use Rattle.lists.specs.Search.{up_to}
-use Rattle.fields.specs.declared.Arrival.{Arrival}
-use Rattle.fields.specs.declared.Line.{Line}
-use Rattle.fields.specs.Text.{split}
-use Rattle.fields.specs.Lines.{line_of}
-use Rattle.fields.specs.Search.{part-more, split-last}
-use Rattle.plan.specs.declared.Answer.{Answer}
-use Rattle.plan.specs.declared.PlanRefusal.{PlanRefusal}
-use Rattle.plan.specs.declared.Plan.{Plan}
-use Rattle.plan.specs.declared.Reading.{Reading}
-use Rattle.plan.specs.declared.Next.{Next}
-use Rattle.plan.specs.Plan.{fresh_reading, judged, moved, refused_plan, closing, ending, or_else, reads, max_bytes, plan_of, or_next}
+-- Steps of the check of a plan.
+use Rattle.std.specs.Prelude.{ℕ, ◌+◌, ◌-◌, ◌≤◌, ◌<◌, ◌≡◌, Option, Some, None, Result, Ok, Err, List, length, take, drop}
+use Rattle.std.proofs.Common.{sym, ap, ◌∙◌, add-one, lt-ltb, le-ltb, drop_of_length-le, drop-cons}
+use Rattle.plan.specs.declared.line.Line.{Line}
+use Rattle.plan.specs.declared.refusal.PlanRefusal.{PlanRefusal}
+use Rattle.plan.specs.declared.reading.Reading.{Reading}
+use Rattle.plan.specs.Text.{split, end_from}
+use Rattle.plan.specs.Lines.{line_of}
+use Rattle.plan.proofs.Search.{ended, unended}
+use Rattle.plan.specs.Plan.{fresh_reading, judged, moved, refused_plan, closing, ending, or_else, reads, max_bytes, plan_of}
 
--- a turn of the check, in a text t at a place
-pub too_big : (t : List ℕ) (r : Plan) → max_bytes < length t → r ≡ refused_plan PlanRefusal.TooLong 0 → r ≡ plan_of t
-unfolding plan_of
-too_big t r h e = e ∙ sym (simp (lt-ltb _ _ h))
+module _ (text : List ℕ) where
+  pub too_long : max_bytes < length text → refused_plan PlanRefusal.TooLong 0 ≡ plan_of text
+  unfolding plan_of
+  too_long h = simp (lt-ltb _ _ h)
 
-pub first-line : (t : List ℕ) (b : Reading) → length t ≤ max_bytes → b ≡ fresh_reading → plan_of t ≡ reads b 1 (split 10 t)
-unfolding plan_of
-first-line t b h e = simp (le-ltb _ _ h, e)
+  pub starts : length text ≤ max_bytes → (r : Reading) → r ≡ fresh_reading → plan_of text ≡ reads r 1 (split 10 text)
+  unfolding plan_of
+  starts h r e = simp (le-ltb _ _ h, e)
 
-module _ (t : List ℕ) (st : Reading) (at n line : ℕ) (len : n ≡ length t) where
-  pub no_more : n ≤ at → (r : Plan) → r ≡ closing st line → reads st line (split 10 (drop at t)) ≡ r
-  unfolding reads ending split
-  no_more h r e = let k : length t ≤ at = omega arith in rw (drop_of_length-le t k) (sym e)
+  module _ (r : Reading) (line at : ℕ) where
+    module _ (e : ℕ) (found : Some e ≡ end_from 10 text at) where
+      -- the line that ends at e
+      abbrev here : Option Line
+      here = line_of (take (e - at) (drop at text))
 
-  module _ (e : ℕ) (below : at < n) (found : e ≡ at + up_to 10 (drop at t)) where
-    pub unclosed : n ≤ e → (r : Plan) → r ≡ refused_plan PlanRefusal.BadLine line → reads st line (split 10 (drop at t)) ≡ r
-    unfolding reads ending
-    unclosed h r q =
-        let k : length (drop at t) ≤ up_to 10 (drop at t) = omega (arith, length-drop at t) in
-        let i : at < length t = omega arith in
-        ap (reads st line) (split-last 10 (drop at t) k) ∙ rw (drop-cons t at 0 i) (sym q)
-
-    module _ (more : e < n) (l : Line) (parsed : l ≡ line_of (take (e - at) (drop at t))) (k : Answer) (said : k ≡ judged st.stage st.tick l) where
-      inside : e < length t
-      inside = omega arith
-
-      turn : reads st line (split 10 (drop at t)) ≡ or_else k line (reads (moved st l) (suc line) (split 10 (drop (e + 1) t)))
+      turn : reads r line (split 10 (drop at text)) ≡ or_else (judged r.stage here) line (reads (moved r here) (line + 1) (split 10 (drop (e + 1) text)))
       unfolding reads
-      turn = ap (reads st line) (part-more 10 t at e found inside) ∙ simp (sym parsed, sym said)
+      turn = ap (reads r line) (ended 10 text at e found).parts ∙ simp add-one
 
-      pub stops : (q : PlanRefusal) → k ≡ Answer.Refused q → (r : Plan) → r ≡ refused_plan q line → reads st line (split 10 (drop at t)) ≡ r
-      stops q z r p = turn ∙ ap (λ (x : Answer). or_else x line (reads (moved st l) (suc line) (split 10 (drop (e + 1) t)))) z ∙ sym p
+      pub refused_line : (k : PlanRefusal) → Err k ≡ judged r.stage here → reads r line (split 10 (drop at text)) ≡ refused_plan k line
+      refused_line k q = turn ∙ ap (λ (a : Result Unit PlanRefusal). or_else a line (reads (moved r here) (line + 1) (split 10 (drop (e + 1) text)))) (sym q)
 
-      pub goes : k ≡ Answer.Accepted → (next : Reading) → next ≡ moved st l → reads st line (split 10 (drop at t)) ≡ reads next (line + 1) (split 10 (drop (e + 1) t))
-      goes z next q =
-          turn ∙ ap (λ (x : Answer). or_else x line (reads (moved st l) (suc line) (split 10 (drop (e + 1) t)))) z
-          ∙ rw (q, add-one line) refl
+      pub taken_line :
+          (u : Unit) → Ok u ≡ judged r.stage here → (n : Reading) → n ≡ moved r here
+          → reads r line (split 10 (drop at text)) ≡ reads n (line + 1) (split 10 (drop (e + 1) text))
+      taken_line u q n m =
+          turn ∙ ap (λ (a : Result Unit PlanRefusal). or_else a line (reads (moved r here) (line + 1) (split 10 (drop (e + 1) text)))) (sym q)
+          ∙ ap (λ (x : Reading). reads x (line + 1) (split 10 (drop (e + 1) text))) (sym m)
 
--- a line that is no A line
-pub passed : (l : Line) (p : ℕ) (x : Next) → ((a : Arrival) → l ≡ Line.A a → ⊥) → or_next l p x ≡ x
-passed (Line.T r) p x h = refl
-passed (Line.S s) p x h = refl
-passed (Line.A a) p x h = absurd (h a refl)
-passed (Line.R n) p x h = refl
-passed Line.Bad p x h = refl
+    module _ (none : None ≡ end_from 10 text at) where
+      last : reads r line (split 10 (drop at text)) ≡ ending r line (drop at text)
+      unfolding reads
+      last = ap (reads r line) (unended 10 text at none)
+
+      pub unclosed : at < length text → reads r line (split 10 (drop at text)) ≡ refused_plan PlanRefusal.BadLine line
+      unfolding ending
+      unclosed h = last ∙ ap (ending r line) (drop-cons text at 0 h)
+
+      pub finished : length text ≤ at → reads r line (split 10 (drop at text)) ≡ closing r line
+      unfolding ending
+      finished h = last ∙ ap (ending r line) (drop_of_length-le text h)

@@ -1,168 +1,138 @@
 -- Plans at the edges of the rules, computed: the points that document 01 leaves to a careful reader, one theorem each.
-use Rattle.std.specs.Prelude.{ℕ, ◌≡◌, refl, List, [], ◌∷◌, replicate}
+use Rattle.std.specs.Prelude.{ℕ, ◌≡◌, refl, List, [], ◌∷◌, replicate, codes}
 use Rattle.table.specs.declared.Refusal.{Refusal}
-use Rattle.fields.specs.Padded.{leading, allowed, padded}
-use Rattle.plan.specs.declared.PlanRefusal.{PlanRefusal}
+use Rattle.plan.specs.LinePadded.{leading, allowed, padded}
+use Rattle.plan.specs.declared.refusal.PlanRefusal.{PlanRefusal}
 use Rattle.plan.specs.Plan.{plan_of, refused_plan, accepted_plan, arrivals_from, rules}
 
 -- ---- Nothing, a lone line feed, a last line that is not closed.
--- ``
-empty : plan_of ([]) ≡ refused_plan PlanRefusal.Misplaced 1
+empty : plan_of [] ≡ refused_plan PlanRefusal.Misplaced 1
 unfolding rules
 empty = refl
 
--- `\n`
-lone_feed : plan_of (10 ∷ []) ≡ refused_plan PlanRefusal.BadLine 1
+lone_feed : plan_of (codes "\n") ≡ refused_plan PlanRefusal.BadLine 1
 unfolding rules
 lone_feed = refl
 
--- `R,8`
-unclosed : plan_of (82 ∷ 44 ∷ 56 ∷ []) ≡ refused_plan PlanRefusal.BadLine 1
+unclosed : plan_of (codes "R,8") ≡ refused_plan PlanRefusal.BadLine 1
 unfolding rules
 unclosed = refl
 
--- `T,3,6,2,6\nS,2,0,5,2\nR,8`
-unclosed-last : plan_of (84 ∷ 44 ∷ 51 ∷ 44 ∷ 54 ∷ 44 ∷ 50 ∷ 44 ∷ 54 ∷ 10 ∷ 83 ∷ 44 ∷ 50 ∷ 44 ∷ 48 ∷ 44 ∷ 53 ∷ 44 ∷ 50 ∷ 10 ∷ 82 ∷ 44 ∷ 56 ∷ []) ≡ refused_plan PlanRefusal.BadLine 3
+unclosed-last : plan_of (codes "T,3,6,2,6\nS,2,0,5,2\nR,8") ≡ refused_plan PlanRefusal.BadLine 3
 unfolding rules
 unclosed-last = refl
 
--- `A,0,0,1\nR,8`
-earlier_wins : plan_of (65 ∷ 44 ∷ 48 ∷ 44 ∷ 48 ∷ 44 ∷ 49 ∷ 10 ∷ 82 ∷ 44 ∷ 56 ∷ []) ≡ refused_plan PlanRefusal.Misplaced 1
+earlier_wins : plan_of (codes "A,0,0,1\nR,8") ≡ refused_plan PlanRefusal.Misplaced 1
 unfolding rules
 earlier_wins = refl
 
 -- ---- On one line 8 comes before 9, and 9 before 4, after R too; an R line above its limit is 8.
--- `A,x,1,1\n`
-bad-before-misplaced : plan_of (65 ∷ 44 ∷ 120 ∷ 44 ∷ 49 ∷ 44 ∷ 49 ∷ 10 ∷ []) ≡ refused_plan PlanRefusal.BadLine 1
+bad-before-misplaced : plan_of (codes "A,x,1,1\n") ≡ refused_plan PlanRefusal.BadLine 1
 unfolding rules
 bad-before-misplaced = refl
 
--- `A,0,0,0\n`
-misplaced-before-work : plan_of (65 ∷ 44 ∷ 48 ∷ 44 ∷ 48 ∷ 44 ∷ 48 ∷ 10 ∷ []) ≡ refused_plan PlanRefusal.Misplaced 1
+misplaced-before-work : plan_of (codes "A,0,0,0\n") ≡ refused_plan PlanRefusal.Misplaced 1
 unfolding rules
 misplaced-before-work = refl
 
--- `T,3,6,2,6\nS,2,0,5,2\nA,3,7,1\nA,2,7,0\nR,8\n`
-falling-before-work : plan_of (84 ∷ 44 ∷ 51 ∷ 44 ∷ 54 ∷ 44 ∷ 50 ∷ 44 ∷ 54 ∷ 10 ∷ 83 ∷ 44 ∷ 50 ∷ 44 ∷ 48 ∷ 44 ∷ 53 ∷ 44 ∷ 50 ∷ 10 ∷ 65 ∷ 44 ∷ 51 ∷ 44 ∷ 55 ∷ 44 ∷ 49 ∷ 10 ∷ 65 ∷ 44 ∷ 50 ∷ 44 ∷ 55 ∷ 44 ∷ 48 ∷ 10 ∷ 82 ∷ 44 ∷ 56 ∷ 10 ∷ []) ≡ refused_plan PlanRefusal.Misplaced 4
+falling-before-work : plan_of (codes "T,3,6,2,6\nS,2,0,5,2\nA,3,7,1\nA,2,7,0\nR,8\n") ≡ refused_plan PlanRefusal.Misplaced 4
 unfolding rules
 falling-before-work = refl
 
--- `T,3,6,2,6\nS,2,0,5,2\nR,8\n\n`
-bad-after-run : plan_of (84 ∷ 44 ∷ 51 ∷ 44 ∷ 54 ∷ 44 ∷ 50 ∷ 44 ∷ 54 ∷ 10 ∷ 83 ∷ 44 ∷ 50 ∷ 44 ∷ 48 ∷ 44 ∷ 53 ∷ 44 ∷ 50 ∷ 10 ∷ 82 ∷ 44 ∷ 56 ∷ 10 ∷ 10 ∷ []) ≡ refused_plan PlanRefusal.BadLine 4
+bad-after-run : plan_of (codes "T,3,6,2,6\nS,2,0,5,2\nR,8\n\n") ≡ refused_plan PlanRefusal.BadLine 4
 unfolding rules
 bad-after-run = refl
 
--- `T,3,6,2,6\nS,2,0,5,2\nR,8\nR,8\n`
-line-after-run : plan_of (84 ∷ 44 ∷ 51 ∷ 44 ∷ 54 ∷ 44 ∷ 50 ∷ 44 ∷ 54 ∷ 10 ∷ 83 ∷ 44 ∷ 50 ∷ 44 ∷ 48 ∷ 44 ∷ 53 ∷ 44 ∷ 50 ∷ 10 ∷ 82 ∷ 44 ∷ 56 ∷ 10 ∷ 82 ∷ 44 ∷ 56 ∷ 10 ∷ []) ≡ refused_plan PlanRefusal.Misplaced 4
+line-after-run : plan_of (codes "T,3,6,2,6\nS,2,0,5,2\nR,8\nR,8\n") ≡ refused_plan PlanRefusal.Misplaced 4
 unfolding rules
 line-after-run = refl
 
--- `R,1000001\n`
-run-over : plan_of (82 ∷ 44 ∷ 49 ∷ 48 ∷ 48 ∷ 48 ∷ 48 ∷ 48 ∷ 49 ∷ 10 ∷ []) ≡ refused_plan PlanRefusal.BadLine 1
+run-over : plan_of (codes "R,1000001\n") ≡ refused_plan PlanRefusal.BadLine 1
 unfolding rules
 run-over = refl
 
--- `T,3,6,2,6\nS,2,0,5,2\nR,1000001\n`
-run-over-last : plan_of (84 ∷ 44 ∷ 51 ∷ 44 ∷ 54 ∷ 44 ∷ 50 ∷ 44 ∷ 54 ∷ 10 ∷ 83 ∷ 44 ∷ 50 ∷ 44 ∷ 48 ∷ 44 ∷ 53 ∷ 44 ∷ 50 ∷ 10 ∷ 82 ∷ 44 ∷ 49 ∷ 48 ∷ 48 ∷ 48 ∷ 48 ∷ 48 ∷ 49 ∷ 10 ∷ []) ≡ refused_plan PlanRefusal.BadLine 3
+run-over-last : plan_of (codes "T,3,6,2,6\nS,2,0,5,2\nR,1000001\n") ≡ refused_plan PlanRefusal.BadLine 3
 unfolding rules
 run-over-last = refl
 
 -- ---- The order of the letters.
--- `A,0,0,1\n`
-arrival-first : plan_of (65 ∷ 44 ∷ 48 ∷ 44 ∷ 48 ∷ 44 ∷ 49 ∷ 10 ∷ []) ≡ refused_plan PlanRefusal.Misplaced 1
+arrival-first : plan_of (codes "A,0,0,1\n") ≡ refused_plan PlanRefusal.Misplaced 1
 unfolding rules
 arrival-first = refl
 
--- `R,8\n`
-run-first : plan_of (82 ∷ 44 ∷ 56 ∷ 10 ∷ []) ≡ refused_plan PlanRefusal.Misplaced 1
+run-first : plan_of (codes "R,8\n") ≡ refused_plan PlanRefusal.Misplaced 1
 unfolding rules
 run-first = refl
 
--- `T,3,6,2,6\nS,2,0,5,2\nT,3,6,2,6\nR,8\n`
-task-after-server : plan_of (84 ∷ 44 ∷ 51 ∷ 44 ∷ 54 ∷ 44 ∷ 50 ∷ 44 ∷ 54 ∷ 10 ∷ 83 ∷ 44 ∷ 50 ∷ 44 ∷ 48 ∷ 44 ∷ 53 ∷ 44 ∷ 50 ∷ 10 ∷ 84 ∷ 44 ∷ 51 ∷ 44 ∷ 54 ∷ 44 ∷ 50 ∷ 44 ∷ 54 ∷ 10 ∷ 82 ∷ 44 ∷ 56 ∷ 10 ∷ []) ≡ refused_plan PlanRefusal.Misplaced 3
+task-after-server : plan_of (codes "T,3,6,2,6\nS,2,0,5,2\nT,3,6,2,6\nR,8\n") ≡ refused_plan PlanRefusal.Misplaced 3
 unfolding rules
 task-after-server = refl
 
--- `T,3,6,2,6\nS,2,0,5,2\nS,2,0,5,2\nR,8\n`
-second_server : plan_of (84 ∷ 44 ∷ 51 ∷ 44 ∷ 54 ∷ 44 ∷ 50 ∷ 44 ∷ 54 ∷ 10 ∷ 83 ∷ 44 ∷ 50 ∷ 44 ∷ 48 ∷ 44 ∷ 53 ∷ 44 ∷ 50 ∷ 10 ∷ 83 ∷ 44 ∷ 50 ∷ 44 ∷ 48 ∷ 44 ∷ 53 ∷ 44 ∷ 50 ∷ 10 ∷ 82 ∷ 44 ∷ 56 ∷ 10 ∷ []) ≡ refused_plan PlanRefusal.Misplaced 3
+second_server : plan_of (codes "T,3,6,2,6\nS,2,0,5,2\nS,2,0,5,2\nR,8\n") ≡ refused_plan PlanRefusal.Misplaced 3
 unfolding rules
 second_server = refl
 
--- `T,3,6,2,6\nS,2,0,5,2\n`
-no_run : plan_of (84 ∷ 44 ∷ 51 ∷ 44 ∷ 54 ∷ 44 ∷ 50 ∷ 44 ∷ 54 ∷ 10 ∷ 83 ∷ 44 ∷ 50 ∷ 44 ∷ 48 ∷ 44 ∷ 53 ∷ 44 ∷ 50 ∷ 10 ∷ []) ≡ refused_plan PlanRefusal.Misplaced 3
+no_run : plan_of (codes "T,3,6,2,6\nS,2,0,5,2\n") ≡ refused_plan PlanRefusal.Misplaced 3
 unfolding rules
 no_run = refl
 
--- `T,3,6,2,6\n`
-no_server : plan_of (84 ∷ 44 ∷ 51 ∷ 44 ∷ 54 ∷ 44 ∷ 50 ∷ 44 ∷ 54 ∷ 10 ∷ []) ≡ refused_plan PlanRefusal.Misplaced 2
+no_server : plan_of (codes "T,3,6,2,6\n") ≡ refused_plan PlanRefusal.Misplaced 2
 unfolding rules
 no_server = refl
 
--- `T,3,6,2,6\nS,2,0,5,2\nA,3,7,1\nA,2,7,1\nR,8\n`
-falling : plan_of (84 ∷ 44 ∷ 51 ∷ 44 ∷ 54 ∷ 44 ∷ 50 ∷ 44 ∷ 54 ∷ 10 ∷ 83 ∷ 44 ∷ 50 ∷ 44 ∷ 48 ∷ 44 ∷ 53 ∷ 44 ∷ 50 ∷ 10 ∷ 65 ∷ 44 ∷ 51 ∷ 44 ∷ 55 ∷ 44 ∷ 49 ∷ 10 ∷ 65 ∷ 44 ∷ 50 ∷ 44 ∷ 55 ∷ 44 ∷ 49 ∷ 10 ∷ 82 ∷ 44 ∷ 56 ∷ 10 ∷ []) ≡ refused_plan PlanRefusal.Misplaced 4
+falling : plan_of (codes "T,3,6,2,6\nS,2,0,5,2\nA,3,7,1\nA,2,7,1\nR,8\n") ≡ refused_plan PlanRefusal.Misplaced 4
 unfolding rules
 falling = refl
 
 -- ---- Works, at and past the end too.
--- `T,3,6,2,6\nS,2,0,5,2\nA,3,7,0\nR,8\n`
-work_zero : plan_of (84 ∷ 44 ∷ 51 ∷ 44 ∷ 54 ∷ 44 ∷ 50 ∷ 44 ∷ 54 ∷ 10 ∷ 83 ∷ 44 ∷ 50 ∷ 44 ∷ 48 ∷ 44 ∷ 53 ∷ 44 ∷ 50 ∷ 10 ∷ 65 ∷ 44 ∷ 51 ∷ 44 ∷ 55 ∷ 44 ∷ 48 ∷ 10 ∷ 82 ∷ 44 ∷ 56 ∷ 10 ∷ []) ≡ refused_plan (PlanRefusal.Call Refusal.BadWork) 3
+work_zero : plan_of (codes "T,3,6,2,6\nS,2,0,5,2\nA,3,7,0\nR,8\n") ≡ refused_plan (PlanRefusal.Call Refusal.BadWork) 3
 unfolding rules
 work_zero = refl
 
--- `T,3,6,2,6\nS,2,0,5,2\nA,3,7,60001\nR,8\n`
-work-over : plan_of (84 ∷ 44 ∷ 51 ∷ 44 ∷ 54 ∷ 44 ∷ 50 ∷ 44 ∷ 54 ∷ 10 ∷ 83 ∷ 44 ∷ 50 ∷ 44 ∷ 48 ∷ 44 ∷ 53 ∷ 44 ∷ 50 ∷ 10 ∷ 65 ∷ 44 ∷ 51 ∷ 44 ∷ 55 ∷ 44 ∷ 54 ∷ 48 ∷ 48 ∷ 48 ∷ 49 ∷ 10 ∷ 82 ∷ 44 ∷ 56 ∷ 10 ∷ []) ≡ refused_plan (PlanRefusal.Call Refusal.BadWork) 3
+work-over : plan_of (codes "T,3,6,2,6\nS,2,0,5,2\nA,3,7,60001\nR,8\n") ≡ refused_plan (PlanRefusal.Call Refusal.BadWork) 3
 unfolding rules
 work-over = refl
 
--- `T,3,6,2,6\nS,2,0,5,2\nA,99,7,0\nR,8\n`
-work-past-end : plan_of (84 ∷ 44 ∷ 51 ∷ 44 ∷ 54 ∷ 44 ∷ 50 ∷ 44 ∷ 54 ∷ 10 ∷ 83 ∷ 44 ∷ 50 ∷ 44 ∷ 48 ∷ 44 ∷ 53 ∷ 44 ∷ 50 ∷ 10 ∷ 65 ∷ 44 ∷ 57 ∷ 57 ∷ 44 ∷ 55 ∷ 44 ∷ 48 ∷ 10 ∷ 82 ∷ 44 ∷ 56 ∷ 10 ∷ []) ≡ refused_plan (PlanRefusal.Call Refusal.BadWork) 3
+work-past-end : plan_of (codes "T,3,6,2,6\nS,2,0,5,2\nA,99,7,0\nR,8\n") ≡ refused_plan (PlanRefusal.Call Refusal.BadWork) 3
 unfolding rules
 work-past-end = refl
 
 -- ---- Padded numbers: eleven digits are 8 in every line kind; a padded work of 0 is 4.
--- `T,00000000003,6,2,6\n`
-eleven_in_task : plan_of (84 ∷ 44 ∷ 48 ∷ 48 ∷ 48 ∷ 48 ∷ 48 ∷ 48 ∷ 48 ∷ 48 ∷ 48 ∷ 48 ∷ 51 ∷ 44 ∷ 54 ∷ 44 ∷ 50 ∷ 44 ∷ 54 ∷ 10 ∷ []) ≡ refused_plan PlanRefusal.BadLine 1
+eleven_in_task : plan_of (codes "T,00000000003,6,2,6\n") ≡ refused_plan PlanRefusal.BadLine 1
 unfolding rules
 eleven_in_task = refl
 
--- `T,3,6,2,6\nS,00000000002,0,5,2\n`
-eleven_in_server : plan_of (84 ∷ 44 ∷ 51 ∷ 44 ∷ 54 ∷ 44 ∷ 50 ∷ 44 ∷ 54 ∷ 10 ∷ 83 ∷ 44 ∷ 48 ∷ 48 ∷ 48 ∷ 48 ∷ 48 ∷ 48 ∷ 48 ∷ 48 ∷ 48 ∷ 48 ∷ 50 ∷ 44 ∷ 48 ∷ 44 ∷ 53 ∷ 44 ∷ 50 ∷ 10 ∷ []) ≡ refused_plan PlanRefusal.BadLine 2
+eleven_in_server : plan_of (codes "T,3,6,2,6\nS,00000000002,0,5,2\n") ≡ refused_plan PlanRefusal.BadLine 2
 unfolding rules
 eleven_in_server = refl
 
--- `T,3,6,2,6\nS,2,0,5,2\nA,3,7,00000000004\n`
-eleven_in_arrival : plan_of (84 ∷ 44 ∷ 51 ∷ 44 ∷ 54 ∷ 44 ∷ 50 ∷ 44 ∷ 54 ∷ 10 ∷ 83 ∷ 44 ∷ 50 ∷ 44 ∷ 48 ∷ 44 ∷ 53 ∷ 44 ∷ 50 ∷ 10 ∷ 65 ∷ 44 ∷ 51 ∷ 44 ∷ 55 ∷ 44 ∷ 48 ∷ 48 ∷ 48 ∷ 48 ∷ 48 ∷ 48 ∷ 48 ∷ 48 ∷ 48 ∷ 48 ∷ 52 ∷ 10 ∷ []) ≡ refused_plan PlanRefusal.BadLine 3
+eleven_in_arrival : plan_of (codes "T,3,6,2,6\nS,2,0,5,2\nA,3,7,00000000004\n") ≡ refused_plan PlanRefusal.BadLine 3
 unfolding rules
 eleven_in_arrival = refl
 
--- `T,3,6,2,6\nS,2,0,5,2\nR,00000000008\n`
-eleven_in_run : plan_of (84 ∷ 44 ∷ 51 ∷ 44 ∷ 54 ∷ 44 ∷ 50 ∷ 44 ∷ 54 ∷ 10 ∷ 83 ∷ 44 ∷ 50 ∷ 44 ∷ 48 ∷ 44 ∷ 53 ∷ 44 ∷ 50 ∷ 10 ∷ 82 ∷ 44 ∷ 48 ∷ 48 ∷ 48 ∷ 48 ∷ 48 ∷ 48 ∷ 48 ∷ 48 ∷ 48 ∷ 48 ∷ 56 ∷ 10 ∷ []) ≡ refused_plan PlanRefusal.BadLine 3
+eleven_in_run : plan_of (codes "T,3,6,2,6\nS,2,0,5,2\nR,00000000008\n") ≡ refused_plan PlanRefusal.BadLine 3
 unfolding rules
 eleven_in_run = refl
 
--- `T,3,6,2,6\nS,2,0,5,2\nA,3,7,00\nR,8\n`
-padded-work_zero : plan_of (84 ∷ 44 ∷ 51 ∷ 44 ∷ 54 ∷ 44 ∷ 50 ∷ 44 ∷ 54 ∷ 10 ∷ 83 ∷ 44 ∷ 50 ∷ 44 ∷ 48 ∷ 44 ∷ 53 ∷ 44 ∷ 50 ∷ 10 ∷ 65 ∷ 44 ∷ 51 ∷ 44 ∷ 55 ∷ 44 ∷ 48 ∷ 48 ∷ 10 ∷ 82 ∷ 44 ∷ 56 ∷ 10 ∷ []) ≡ refused_plan (PlanRefusal.Call Refusal.BadWork) 3
+padded-work_zero : plan_of (codes "T,3,6,2,6\nS,2,0,5,2\nA,3,7,00\nR,8\n") ≡ refused_plan (PlanRefusal.Call Refusal.BadWork) 3
 unfolding rules
 padded-work_zero = refl
 
 -- ---- The table, after all lines.
--- `S,0,0,0,0\nR,1\n`
-no_task_lem : plan_of (83 ∷ 44 ∷ 48 ∷ 44 ∷ 48 ∷ 44 ∷ 48 ∷ 44 ∷ 48 ∷ 10 ∷ 82 ∷ 44 ∷ 49 ∷ 10 ∷ []) ≡ refused_plan (PlanRefusal.Call Refusal.TaskCount) 0
+no_task_lem : plan_of (codes "S,0,0,0,0\nR,1\n") ≡ refused_plan (PlanRefusal.Call Refusal.TaskCount) 0
 unfolding rules
 no_task_lem = refl
 
--- `T,0,6,2,6\nT,0,6,2,6\nT,0,6, .. ,2,6\nS,2,0,5,2\nR,8\n`
-seventeen : plan_of (84 ∷ 44 ∷ 48 ∷ 44 ∷ 54 ∷ 44 ∷ 50 ∷ 44 ∷ 54 ∷ 10 ∷ 84 ∷ 44 ∷ 48 ∷ 44 ∷ 54 ∷ 44 ∷ 50 ∷ 44 ∷ 54 ∷ 10 ∷ 84 ∷ 44 ∷ 48 ∷ 44 ∷ 54 ∷ 44 ∷ 50 ∷ 44 ∷ 54 ∷ 10 ∷ 84 ∷ 44 ∷ 48 ∷ 44 ∷ 54 ∷ 44 ∷ 50 ∷ 44 ∷ 54 ∷ 10 ∷ 84 ∷ 44 ∷ 48 ∷ 44 ∷ 54 ∷ 44 ∷ 50 ∷ 44 ∷ 54 ∷ 10 ∷ 84 ∷ 44 ∷ 48 ∷ 44 ∷ 54 ∷ 44 ∷ 50 ∷ 44 ∷ 54 ∷ 10 ∷ 84 ∷ 44 ∷ 48 ∷ 44 ∷ 54 ∷ 44 ∷ 50 ∷ 44 ∷ 54 ∷ 10 ∷ 84 ∷ 44 ∷ 48 ∷ 44 ∷ 54 ∷ 44 ∷ 50 ∷ 44 ∷ 54 ∷ 10 ∷ 84 ∷ 44 ∷ 57 ∷ 44 ∷ 48 ∷ 44 ∷ 57 ∷ 44 ∷ 48 ∷ 10 ∷ 84 ∷ 44 ∷ 48 ∷ 44 ∷ 54 ∷ 44 ∷ 50 ∷ 44 ∷ 54 ∷ 10 ∷ 84 ∷ 44 ∷ 48 ∷ 44 ∷ 54 ∷ 44 ∷ 50 ∷ 44 ∷ 54 ∷ 10 ∷ 84 ∷ 44 ∷ 48 ∷ 44 ∷ 54 ∷ 44 ∷ 50 ∷ 44 ∷ 54 ∷ 10 ∷ 84 ∷ 44 ∷ 48 ∷ 44 ∷ 54 ∷ 44 ∷ 50 ∷ 44 ∷ 54 ∷ 10 ∷ 84 ∷ 44 ∷ 48 ∷ 44 ∷ 54 ∷ 44 ∷ 50 ∷ 44 ∷ 54 ∷ 10 ∷ 84 ∷ 44 ∷ 48 ∷ 44 ∷ 54 ∷ 44 ∷ 50 ∷ 44 ∷ 54 ∷ 10 ∷ 84 ∷ 44 ∷ 48 ∷ 44 ∷ 54 ∷ 44 ∷ 50 ∷ 44 ∷ 54 ∷ 10 ∷ 84 ∷ 44 ∷ 48 ∷ 44 ∷ 54 ∷ 44 ∷ 50 ∷ 44 ∷ 54 ∷ 10 ∷ 83 ∷ 44 ∷ 50 ∷ 44 ∷ 48 ∷ 44 ∷ 53 ∷ 44 ∷ 50 ∷ 10 ∷ 82 ∷ 44 ∷ 56 ∷ 10 ∷ []) ≡ refused_plan (PlanRefusal.Call Refusal.TaskCount) 0
+seventeen : plan_of (codes "T,0,6,2,6\nT,0,6,2,6\nT,0,6,2,6\nT,0,6,2,6\nT,0,6,2,6\nT,0,6,2,6\nT,0,6,2,6\nT,0,6,2,6\nT,9,0,9,0\nT,0,6,2,6\nT,0,6,2,6\nT,0,6,2,6\nT,0,6,2,6\nT,0,6,2,6\nT,0,6,2,6\nT,0,6,2,6\nT,0,6,2,6\nS,2,0,5,2\nR,8\n") ≡ refused_plan (PlanRefusal.Call Refusal.TaskCount) 0
 unfolding rules
 seventeen = refl
 
--- `T,3,6,2,6\nS,2,2,5,2\nR,8\n`
-bad-server : plan_of (84 ∷ 44 ∷ 51 ∷ 44 ∷ 54 ∷ 44 ∷ 50 ∷ 44 ∷ 54 ∷ 10 ∷ 83 ∷ 44 ∷ 50 ∷ 44 ∷ 50 ∷ 44 ∷ 53 ∷ 44 ∷ 50 ∷ 10 ∷ 82 ∷ 44 ∷ 56 ∷ 10 ∷ []) ≡ refused_plan (PlanRefusal.Call Refusal.BadServer) 0
+bad-server : plan_of (codes "T,3,6,2,6\nS,2,2,5,2\nR,8\n") ≡ refused_plan (PlanRefusal.Call Refusal.BadServer) 0
 unfolding rules
 bad-server = refl
 
--- `T,0,6,2,4294967295\nS,2,0,5,2\nR,8\n`: the number parses, the table is refused, the index is 0
-largest-number : plan_of (84 ∷ 44 ∷ 48 ∷ 44 ∷ 54 ∷ 44 ∷ 50 ∷ 44 ∷ 52 ∷ 50 ∷ 57 ∷ 52 ∷ 57 ∷ 54 ∷ 55 ∷ 50 ∷ 57 ∷ 53 ∷ 10 ∷ 83 ∷ 44 ∷ 50 ∷ 44 ∷ 48 ∷ 44 ∷ 53 ∷ 44 ∷ 50 ∷ 10 ∷ 82 ∷ 44 ∷ 56 ∷ 10 ∷ []) ≡ refused_plan (PlanRefusal.Call (Refusal.BadTask 0)) 0
+-- the number parses, the table is refused, the index is 0
+largest-number : plan_of (codes "T,0,6,2,4294967295\nS,2,0,5,2\nR,8\n") ≡ refused_plan (PlanRefusal.Call (Refusal.BadTask 0)) 0
 unfolding rules
 largest-number = refl
 
@@ -178,7 +148,7 @@ as_long_as_may_be = refl
 -- ---- Accepted plans
 -- document 01's listing
 abbrev pub listing : List ℕ
-listing = 84 ∷ 44 ∷ 51 ∷ 44 ∷ 54 ∷ 44 ∷ 50 ∷ 44 ∷ 54 ∷ 10 ∷ 83 ∷ 44 ∷ 50 ∷ 44 ∷ 48 ∷ 44 ∷ 53 ∷ 44 ∷ 50 ∷ 10 ∷ 65 ∷ 44 ∷ 51 ∷ 44 ∷ 55 ∷ 44 ∷ 52 ∷ 10 ∷ 82 ∷ 44 ∷ 56 ∷ 10 ∷ []
+listing = codes "T,3,6,2,6\nS,2,0,5,2\nA,3,7,4\nR,8\n"
 
 the_listing :
     plan_of listing ≡
@@ -198,7 +168,7 @@ the_arrivals = refl
 
 -- the same with every field padded to ten digits (02, request 4/13)
 abbrev padded_listing : List ℕ
-padded_listing = 84 ∷ 44 ∷ 48 ∷ 48 ∷ 48 ∷ 48 ∷ 48 ∷ 48 ∷ 48 ∷ 48 ∷ 48 ∷ 51 ∷ 44 ∷ 48 ∷ 48 ∷ 48 ∷ 48 ∷ 48 ∷ 48 ∷ 48 ∷ 48 ∷ 48 ∷ 54 ∷ 44 ∷ 48 ∷ 48 ∷ 48 ∷ 48 ∷ 48 ∷ 48 ∷ 48 ∷ 48 ∷ 48 ∷ 50 ∷ 44 ∷ 48 ∷ 48 ∷ 48 ∷ 48 ∷ 48 ∷ 48 ∷ 48 ∷ 48 ∷ 48 ∷ 54 ∷ 10 ∷ 83 ∷ 44 ∷ 48 ∷ 48 ∷ 48 ∷ 48 ∷ 48 ∷ 48 ∷ 48 ∷ 48 ∷ 48 ∷ 50 ∷ 44 ∷ 48 ∷ 48 ∷ 48 ∷ 48 ∷ 48 ∷ 48 ∷ 48 ∷ 48 ∷ 48 ∷ 48 ∷ 44 ∷ 48 ∷ 48 ∷ 48 ∷ 48 ∷ 48 ∷ 48 ∷ 48 ∷ 48 ∷ 48 ∷ 53 ∷ 44 ∷ 48 ∷ 48 ∷ 48 ∷ 48 ∷ 48 ∷ 48 ∷ 48 ∷ 48 ∷ 48 ∷ 50 ∷ 10 ∷ 65 ∷ 44 ∷ 48 ∷ 48 ∷ 48 ∷ 48 ∷ 48 ∷ 48 ∷ 48 ∷ 48 ∷ 48 ∷ 51 ∷ 44 ∷ 48 ∷ 48 ∷ 48 ∷ 48 ∷ 48 ∷ 48 ∷ 48 ∷ 48 ∷ 48 ∷ 55 ∷ 44 ∷ 48 ∷ 48 ∷ 48 ∷ 48 ∷ 48 ∷ 48 ∷ 48 ∷ 48 ∷ 48 ∷ 52 ∷ 10 ∷ 82 ∷ 44 ∷ 48 ∷ 48 ∷ 48 ∷ 48 ∷ 48 ∷ 48 ∷ 48 ∷ 48 ∷ 48 ∷ 56 ∷ 10 ∷ []
+padded_listing = codes "T,0000000003,0000000006,0000000002,0000000006\nS,0000000002,0000000000,0000000005,0000000002\nA,0000000003,0000000007,0000000004\nR,0000000008\n"
 
 padded_listing_lem : (plan_of padded_listing ≡ plan_of listing) × (arrivals_from padded_listing 0 ≡ arrivals_from listing 0)
 unfolding rules
@@ -211,16 +181,15 @@ padded_so = refl
 
 -- sixteen tasks, works of 1 and 60,000, ids that repeat, equal ticks, and 1,000,000 ticks
 sixteen :
-    plan_of (84 ∷ 44 ∷ 48 ∷ 44 ∷ 54 ∷ 44 ∷ 50 ∷ 44 ∷ 54 ∷ 10 ∷ 84 ∷ 44 ∷ 48 ∷ 44 ∷ 54 ∷ 44 ∷ 50 ∷ 44 ∷ 54 ∷ 10 ∷ 84 ∷ 44 ∷ 48 ∷ 44 ∷ 54 ∷ 44 ∷ 50 ∷ 44 ∷ 54 ∷ 10 ∷ 84 ∷ 44 ∷ 48 ∷ 44 ∷ 54 ∷ 44 ∷ 50 ∷ 44 ∷ 54 ∷ 10 ∷ 84 ∷ 44 ∷ 48 ∷ 44 ∷ 54 ∷ 44 ∷ 50 ∷ 44 ∷ 54 ∷ 10 ∷ 84 ∷ 44 ∷ 48 ∷ 44 ∷ 54 ∷ 44 ∷ 50 ∷ 44 ∷ 54 ∷ 10 ∷ 84 ∷ 44 ∷ 48 ∷ 44 ∷ 54 ∷ 44 ∷ 50 ∷ 44 ∷ 54 ∷ 10 ∷ 84 ∷ 44 ∷ 48 ∷ 44 ∷ 54 ∷ 44 ∷ 50 ∷ 44 ∷ 54 ∷ 10 ∷ 84 ∷ 44 ∷ 48 ∷ 44 ∷ 54 ∷ 44 ∷ 50 ∷ 44 ∷ 54 ∷ 10 ∷ 84 ∷ 44 ∷ 48 ∷ 44 ∷ 54 ∷ 44 ∷ 50 ∷ 44 ∷ 54 ∷ 10 ∷ 84 ∷ 44 ∷ 48 ∷ 44 ∷ 54 ∷ 44 ∷ 50 ∷ 44 ∷ 54 ∷ 10 ∷ 84 ∷ 44 ∷ 48 ∷ 44 ∷ 54 ∷ 44 ∷ 50 ∷ 44 ∷ 54 ∷ 10 ∷ 84 ∷ 44 ∷ 48 ∷ 44 ∷ 54 ∷ 44 ∷ 50 ∷ 44 ∷ 54 ∷ 10 ∷ 84 ∷ 44 ∷ 48 ∷ 44 ∷ 54 ∷ 44 ∷ 50 ∷ 44 ∷ 54 ∷ 10 ∷ 84 ∷ 44 ∷ 48 ∷ 44 ∷ 54 ∷ 44 ∷ 50 ∷ 44 ∷ 54 ∷ 10 ∷ 84 ∷ 44 ∷ 48 ∷ 44 ∷ 54 ∷ 44 ∷ 50 ∷ 44 ∷ 54 ∷ 10 ∷ 83 ∷ 44 ∷ 48 ∷ 44 ∷ 49 ∷ 54 ∷ 44 ∷ 48 ∷ 44 ∷ 48 ∷ 10 ∷ 65 ∷ 44 ∷ 53 ∷ 44 ∷ 49 ∷ 44 ∷ 49 ∷ 10 ∷ 65 ∷ 44 ∷ 53 ∷ 44 ∷ 49 ∷ 44 ∷ 54 ∷ 48 ∷ 48 ∷ 48 ∷ 48 ∷ 10 ∷ 82 ∷ 44 ∷ 49 ∷ 48 ∷ 48 ∷ 48 ∷ 48 ∷ 48 ∷ 48 ∷ 10 ∷ []) ≡
+    plan_of (codes "T,0,6,2,6\nT,0,6,2,6\nT,0,6,2,6\nT,0,6,2,6\nT,0,6,2,6\nT,0,6,2,6\nT,0,6,2,6\nT,0,6,2,6\nT,0,6,2,6\nT,0,6,2,6\nT,0,6,2,6\nT,0,6,2,6\nT,0,6,2,6\nT,0,6,2,6\nT,0,6,2,6\nT,0,6,2,6\nS,0,16,0,0\nA,5,1,1\nA,5,1,60000\nR,1000000\n") ≡
     accepted_plan
     (record { tasks = replicate 16 (record { phase = 0; period = 6; exec = 2; deadline = 6 }); n = 16; server = record { kind = 0; place = 16; period = 0; budget = 0 } })
     1_000_000
 unfolding rules
 sixteen = refl
 
--- R,0
 no_ticks :
-    plan_of (84 ∷ 44 ∷ 51 ∷ 44 ∷ 54 ∷ 44 ∷ 50 ∷ 44 ∷ 54 ∷ 10 ∷ 83 ∷ 44 ∷ 50 ∷ 44 ∷ 48 ∷ 44 ∷ 53 ∷ 44 ∷ 50 ∷ 10 ∷ 82 ∷ 44 ∷ 48 ∷ 10 ∷ []) ≡
+    plan_of (codes "T,3,6,2,6\nS,2,0,5,2\nR,0\n") ≡
     accepted_plan
     (record {
       tasks = record { phase = 3; period = 6; exec = 2; deadline = 6 } ∷ replicate 15 (record { phase = 0; period = 0; exec = 0; deadline = 0 });

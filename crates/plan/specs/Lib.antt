@@ -1,4 +1,11 @@
+pub mod Text
+pub mod Lines
+pub mod LineBack
+pub mod LinePadded
+pub mod LineCases
 pub mod Refusal
+pub mod Words
 pub mod Plan
 pub mod Figures
+pub mod Reader
 pub mod Cases

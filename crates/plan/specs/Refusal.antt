@@ -1,8 +1,8 @@
 -- Document 01's number of each refusal of a plan, and the value that comes with it.
-use Rattle.std.specs.Prelude.{ℕ}
+use Rattle.std.specs.Prelude.{ℕ, Result, Ok, Err}
 use Rattle.table.specs.Refusal as call
-use Rattle.plan.specs.declared.PlanRefusal.{PlanRefusal}
-use Rattle.plan.specs.declared.Answer.{Answer}
+use Rattle.plan.specs.declared.refusal.PlanRefusal.{PlanRefusal}
+use Rattle.plan.specs.declared.refusal.Rejection.{Rejection}
 
 -- the table "No. | Word | Given if"
 abbrev pub number : PlanRefusal → ℕ
@@ -18,11 +18,11 @@ value PlanRefusal.BadLine = 0
 value PlanRefusal.Misplaced = 0
 value (PlanRefusal.Call r) = call.value r
 
--- 0 and 0 where the plan, or the line, is accepted
-abbrev pub number_of : Answer → ℕ
-number_of Answer.Accepted = 0
-number_of (Answer.Refused r) = number r
+-- 0 and 0 where the plan is accepted
+abbrev pub number_of : {A : Type 0} → Result A Rejection → ℕ
+number_of (Ok x) = 0
+number_of (Err r) = number r.refusal
 
-abbrev pub value_of : Answer → ℕ
-value_of Answer.Accepted = 0
-value_of (Answer.Refused r) = value r
+abbrev pub value_of : {A : Type 0} → Result A Rejection → ℕ
+value_of (Ok x) = 0
+value_of (Err r) = value r.refusal

@@ -1,7 +1,7 @@
 -- Calls as numbers, and what is reported of lists of them, by computation: the figures are worked out by hand.
 use Rattle.std.specs.Prelude.{ℕ, ◌≡◌, refl, Bool, true, false, List, [], ◌∷◌, replicate}
 use Rattle.lists.specs.Lists.{overlay}
-use Rattle.scheduler.specs.Parts.{idle_entries}
+use Rattle.rules.specs.Block.{idle_entries}
 use Rattle.table.specs.declared.Table.{Table}
 use Rattle.rules.specs.Play.{task, server, table}
 use Rattle.guarantee.specs.Calls.{request, tick, run}

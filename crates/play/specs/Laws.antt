@@ -1,13 +1,12 @@
 -- What a call adds to what is reported: its ticks and their drops. The clock rises by one with each tick and stands at its last value at
 -- most, and a tick drops no more than there are tasks in use: so neither sum passes its width.
-use Rattle.std.specs.Prelude.{ℕ, zero, suc, ◌+◌, ◌-◌, ◌*◌, ◌≤◌, ◌≡◌, refl, Bool, true, false, cond, List, [], ◌∷◌, ◌++◌, map, length, take, leb}
+use Rattle.std.specs.Prelude.{ℕ, zero, suc, ◌+◌, ◌-◌, ◌*◌, ◌≤◌, ◌≡◌, refl, Bool, true, false, cond, List, [], ◌∷◌, ◌++◌, map, length, take, leb, Ok}
 use Rattle.std.proofs.Common.{arith, sym, ap, subst, ◌∙◌, append-nil, length-append, leb-true}
 use Rattle.std.proofs.lemmas.List.{length-map}
 use Rattle.lists.specs.Lists.{zip_with, take_overlay}
 use Rattle.lists.specs.Tests.{never}
 use Rattle.server.specs.Limits.{last_clock}
 use Rattle.table.specs.declared.State.{State}
-use Rattle.table.specs.declared.Checked.{Checked}
 use Rattle.table.specs.declared.Refusal.{Refusal}
 use Rattle.table.specs.Limits.{max_tasks}
 use Rattle.table.specs.Refusal.{passed}
@@ -19,8 +18,7 @@ use Rattle.rules.specs.Calls.{unless, request_check, asked, clock_allows, ticked
 use Rattle.rules.proofs.Laws.{tick-few}
 use Rattle.scheduler.specs.Laws.{run_length}
 use Rattle.guarantee.specs.Calls.{Call, request, tick, run, after, final, Event, accepted, ran, tick_events, run_finishes, happens, events, finishes, ticks_from}
-use Rattle.play.specs.declared.Made.{Made}
-use Rattle.play.specs.Report.{drops_in, made}
+use Rattle.play.specs.Report.{Made, drops_in, made}
 
 -- ---- the entries of the ticks among events: as many as there are ticks, and with the same drops
 abbrev pub recorded : List Event → List Entry
@@ -114,7 +112,7 @@ run-accepted : (s : State) (k lent : ℕ) → passed (run_check s k lent) ≡ tr
 run-accepted s k lent e = go (fit s) refl (clock_allows s k) refl (leb k lent) e
   where
     go : (f : Bool) → fit s ≡ f → (a : Bool) → clock_allows s k ≡ a → (b : Bool) →
-        passed (unless f Refusal.UnfitState (unless a Refusal.ClockSpent (unless b Refusal.ShortRecord Checked.Passed))) ≡ true →
+        passed (unless f Refusal.UnfitState (unless a Refusal.ClockSpent (unless b Refusal.ShortRecord (Ok tt)))) ≡ true →
         (fit s ≡ true) × (clock_allows s k ≡ true)
     go true ef true ea b p = (ef, ea)
     go true ef false ea b p = never refl p
@@ -141,7 +139,7 @@ moves s (request id work) = go (passed (request_check s work))
 moves s tick = go (fit s) refl (clock_allows s 1) refl
   where
     go : (f : Bool) → fit s ≡ f → (a : Bool) → clock_allows s 1 ≡ a →
-        let x = tick_by (unless f Refusal.UnfitState (unless a Refusal.ClockSpent Checked.Passed)) s in
+        let x = tick_by (unless f Refusal.UnfitState (unless a Refusal.ClockSpent (Ok tt))) s in
         Moves s x.state (recorded (tick_events x.answer))
     go true ef true ea = run-moves 1 s ef ea
     go true ef false ea = still s

@@ -1,4 +1,5 @@
 pub mod Numbers
+pub mod Calls
 pub mod Report
 pub mod Laws
 pub mod Promise

@@ -3,7 +3,7 @@
 -- A run is lent a list of idle entries, as many as a block has (`block_ticks`, 32). So a run of 0 to 32 ticks may run; a longer one is
 -- refused, by 10 where not by 11 or 6. Numbers past the last whole call say nothing.
 use Rattle.std.specs.Prelude.{ℕ, zero, suc, List, [], ◌∷◌}
-use Rattle.scheduler.specs.Parts.{idle_entries}
+use Rattle.rules.specs.Block.{idle_entries}
 use Rattle.guarantee.specs.Calls.{Call, request, tick, run}
 
 abbrev pub call_of : ℕ → ℕ → ℕ → Call

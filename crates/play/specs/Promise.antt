@@ -8,7 +8,7 @@ use Rattle.table.specs.declared.Table.{Table}
 use Rattle.table.specs.Limits.{max_tasks}
 use Rattle.table.specs.Refusal.{passed}
 use Rattle.table.specs.State.{fresh_state, table_check}
-use Rattle.rules.specs.declared.Waiting.{Waiting}
+use Rattle.rules.specs.Calls.{told}
 use Rattle.guarantee.specs.Calls.{Call, RanTick, no_tick, ticks, clock_after}
 use Rattle.guarantee.specs.Guarantee.{Guarantee}
 use Rattle.guarantee.proofs.Kept.{guarantee, waiting_kept}
@@ -41,7 +41,7 @@ promise t calls r z e = record {
   nodrop = λ h. ap (λ (x : Report). x.drops) e ∙ none_dropped (ticks t calls) (λ u b. (kept h).nodrop u (omega (arith, (kept h).numbered)));
   guarantee = kept;
   waiting = λ h. ap (λ (x : Report). x.waiting) e
-      ∙ ap (λ (w : Waiting). w.work) ((waiting_kept t calls).returned z h)
+      ∙ ap told ((waiting_kept t calls).returned z h)
       ∙ sym (ap (λ (x : Report). waiting_work (waiting_of x.state.queue)) e);
 }
   where

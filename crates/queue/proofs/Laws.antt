@@ -31,10 +31,7 @@ push-room l n b c id work t h k e =
     let r : Request = record { id = id; work = work; arrival = t } in
     rw (lt-ltb n max_waiting h, overlay-push n l r k, length_push n l r k, add-one, e)
 
--- serving: nothing waits; the head leaves; the head stays with one tick of work less
-pub serve_none : (l : List Request) (n b : ℕ) → n < 1 → queue_of l n b ≡ served_queue (queue_of l n b)
-serve_none l n b h = rw (lt-leb 1 n h)
-
+-- serving: the head leaves; the head stays with one tick of work less
 module _ (d : Request) where
   pub serve_leaves : (l : List Request) (n b : ℕ) → 1 ≤ n → n ≤ max_waiting → n ≤ length l → (get_or l 0 d).work ≤ 1 →
       queue_with (queue_of l n b) (drop 1 (take n l)) (b - 1) ≡ served_queue (queue_of l n b)

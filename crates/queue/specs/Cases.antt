@@ -1,10 +1,9 @@
 -- Cases of the queue's rules, worked out apart from the definitions.
-use Rattle.std.specs.Prelude.{ℕ, ◌*◌, ◌≡◌, refl, true, false, [], ◌∷◌, map, length, replicate}
+use Rattle.std.specs.Prelude.{ℕ, ◌*◌, ◌≡◌, refl, true, false, [], ◌∷◌, map, length, replicate, None, Some}
 use Rattle.lists.specs.Lists.{overlay}
 use Rattle.lists.specs.Numbers.{lesser_of}
 use Rattle.queue.specs.declared.Request.{Request}
 use Rattle.queue.specs.declared.Queue.{Queue}
-use Rattle.queue.specs.declared.Finish.{Finish}
 use Rattle.queue.specs.Queue.{max_waiting, work_fits, waiting_work, max_backlog, waiting_of, queue_with, fresh_queue, waits, head_id, presented, served, finished, finish_figures, request_fits, requests_fit}
 use Rattle.queue.specs.Steps.{pushed_queue, served_queue, queue_fits}
 
@@ -35,9 +34,9 @@ pub record QueueCases : Type 0 where
   pub leaves_at_zero : served (waiting_of three) ≡ ask 8 2 5 ∷ []
   pub works-on : served (ask 8 2 5 ∷ ask 7 1 3 ∷ []) ≡ ask 8 1 5 ∷ ask 7 1 3 ∷ []
   pub none-served : served [] ≡ []
-  pub responds : finished 6 (waiting_of three) ≡ Finish.Finished 7 4
-  pub unfinished : finished 6 (ask 8 2 5 ∷ []) ≡ Finish.Nothing
-  pub none-finished : finished 6 [] ≡ Finish.Nothing
+  pub responds : finished 6 (waiting_of three) ≡ Some (record { id = 7; response = 4 })
+  pub unfinished : finished 6 (ask 8 2 5 ∷ []) ≡ None
+  pub none-finished : finished 6 [] ≡ None
   pub finish_figures_lem : finish_figures (finished 6 (waiting_of three)) ≡ record { finished = 1; id = 7; response = 4 }
   pub no_finish_figures : finish_figures (finished 6 []) ≡ record { finished = 0; id = 0; response = 0 }
   -- a slot that the list does not reach keeps what it held

@@ -1,6 +1,6 @@
 -- Laws of the queue for those who call it: the list that waits after a call, what the array's front shows of it, fitness kept, and the work
 -- that waits.
-use Rattle.std.specs.Prelude.{ℕ, zero, suc, ◌+◌, ◌-◌, ◌*◌, ◌≤◌, ◌<◌, ◌≡◌, refl, Bool, true, false, cond, not, ◌&&◌, List, [], ◌∷◌, length, take, get_or, leb}
+use Rattle.std.specs.Prelude.{ℕ, zero, suc, ◌+◌, ◌-◌, ◌*◌, ◌≤◌, ◌<◌, ◌≡◌, refl, Bool, true, false, cond, not, ◌&&◌, List, [], ◌∷◌, length, take, get_or, leb, None, Some}
 use Rattle.std.proofs.Common.{arith, sym, ap, le-leb, lt-ltb, leb-true, leb-false, length-take-le}
 use Rattle.std.proofs.lemmas.Bool.{lt-leb}
 use Rattle.lists.specs.Lists.{take_overlay}
@@ -8,7 +8,6 @@ use Rattle.lists.specs.Numbers.{last32, sum_fits}
 use Rattle.lists.specs.Tests.{and_split, and_join, either, never}
 use Rattle.queue.specs.declared.Request.{Request}
 use Rattle.queue.specs.declared.Queue.{Queue}
-use Rattle.queue.specs.declared.Finish.{Finish}
 use Rattle.queue.specs.Queue.{max_waiting, max_work, work_fits, waiting_work, waiting_of, queue_with, waits, presented, served, finished, request_fits, requests_fit}
 use Rattle.queue.specs.Steps.{pushed_queue, served_queue}
 
@@ -54,7 +53,7 @@ served_length (r ∷ q) =
 module _ (d : Request) where
   pub head-finished : (t n : ℕ) (l : List Request) → 0 < n → n ≤ length l →
       finished t (take n l) ≡
-      cond (leb (get_or l 0 d).work 1) (Finish.Finished (get_or l 0 d).id (t + 1 - (get_or l 0 d).arrival)) Finish.Nothing
+      cond (leb (get_or l 0 d).work 1) (Some (record { id = (get_or l 0 d).id; response = t + 1 - (get_or l 0 d).arrival })) None
   head-finished t zero l a h = absurd (omega arith)
   head-finished t (suc n) [] a h = absurd (omega arith)
   head-finished t (suc n) (r ∷ l) a h = refl

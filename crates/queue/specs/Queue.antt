@@ -1,10 +1,10 @@
 -- The requests that wait, as a list with the head first, and the array that holds them.
-use Rattle.std.specs.Prelude.{ℕ, ◌+◌, ◌-◌, ◌*◌, Bool, true, false, cond, ◌&&◌, List, [], ◌∷◌, ◌++◌, length, take, replicate, leb}
+use Rattle.std.specs.Prelude.{ℕ, ◌+◌, ◌-◌, ◌*◌, Bool, true, false, cond, ◌&&◌, List, [], ◌∷◌, ◌++◌, length, take, replicate, leb, None, Option, Some}
 use Rattle.lists.specs.Lists.{overlay, all}
 use Rattle.lists.specs.Tests.{between}
 use Rattle.queue.specs.declared.Request.{Request}
 use Rattle.queue.specs.declared.Queue.{Queue}
-use Rattle.queue.specs.declared.Finish.{Finish}
+use Rattle.queue.specs.declared.Finished.{Finished}
 
 -- 6/13: "The queue's limit becomes 24 in the state, the request call and refusal 11."
 abbrev pub max_waiting : ℕ
@@ -59,9 +59,9 @@ served [] = []
 served (r ∷ q) = cond (leb r.work 1) q (record { id = r.id; work = r.work - 1; arrival = r.arrival } ∷ q)
 
 -- "and is finished, with response t + 1 − arrival."
-abbrev pub finished : ℕ → List Request → Finish
-finished t [] = Finish.Nothing
-finished t (r ∷ q) = cond (leb r.work 1) (Finish.Finished r.id (t + 1 - r.arrival)) Finish.Nothing
+abbrev pub finished : ℕ → List Request → Option Finished
+finished t [] = None
+finished t (r ∷ q) = cond (leb r.work 1) (Some (record { id = r.id; response = t + 1 - r.arrival })) None
 
 -- what a tick finished, in figures: 1, the request's id and its response; 0 in each where it finished none
 pub record FinishFigures : Type 0 where
@@ -69,9 +69,9 @@ pub record FinishFigures : Type 0 where
   pub id : ℕ
   pub response : ℕ
 
-abbrev pub finish_figures : Finish → FinishFigures
-finish_figures Finish.Nothing = record { finished = 0; id = 0; response = 0 }
-finish_figures (Finish.Finished id response) = record { finished = 1; id = id; response = response }
+abbrev pub finish_figures : Option Finished → FinishFigures
+finish_figures None = record { finished = 0; id = 0; response = 0 }
+finish_figures (Some f) = record { finished = 1; id = f.id; response = f.response }
 
 -- Refusal 11: "a waiting work outside 1 to 60,000", or "an arrival .. after the clock".
 abbrev pub request_fits : ℕ → Request → Bool

@@ -1,13 +1,13 @@
 // The queue of requests, first come first served.
 #![tactic(auto)]
 
-ghost use Rattle.std.specs.Prelude.{◌≡◌, ◌≤◌, ◌-◌, drop};
+ghost use Rattle.std.specs.Prelude.{◌≡◌, ◌≤◌, drop};
 ghost use Rattle.queue.specs.Queue.{max_waiting, fresh_queue, waiting_of, queue_with, request_fits};
 ghost use Rattle.queue.specs.Steps.{pushed_queue, served_queue, queue_fits};
 
 // Work that comes when it likes: an id, the ticks of work left, and the tick at which it was presented.
 #[repr(C)]
-#[derive(Clone, Copy)]
+#[derive(Debug, Clone, Copy, PartialEq, Eq, Default)]
 pub struct Request {
     pub id: u32,
     pub work: u32,
@@ -24,9 +24,9 @@ impl Request {
 }
 
 // The first n slots hold the requests that wait, the head first. backlog: the ticks of work that wait (document 02's figure), which a
-// request adds to and a served tick takes from.
+// request adds to and a served tick takes from. An array and its count: C has this layout too, and nothing may allocate.
 #[repr(C)]
-#[derive(Clone, Copy)]
+#[derive(Debug, Clone, Copy, PartialEq, Eq)]
 pub struct Queue {
     pub requests: [Request; Queue::CAPACITY as usize],
     pub n: u32,
@@ -39,114 +39,84 @@ impl Queue {
     // The longest work of a request.
     pub const MAX_WORK: u32 = 60000;
 
-    // Nothing waits, and every slot is 0.
+    // Nothing waits, and every slot is 0. Written out: of a struct with an array of structs a derived default opened in no proof here.
     pub fn fresh() -> Queue
         ensures { result ≡ fresh_queue }
     {
-        let none = Request {
-            id: 0,
-            work: 0,
-            arrival: 0,
-        };
         Queue {
-            requests: [none; Queue::CAPACITY as usize],
+            requests: [Request::default(); Queue::CAPACITY as usize],
             n: 0,
             backlog: 0,
         }
     }
 
-    // A request more, at the end, and its work more. A full queue stays as it is.
-    pub fn push(self, id: u32, work: u32, arrival: u32) -> Queue
-        ensures { result ≡ pushed_queue self id work arrival }
+    // The requests that wait, the head first: the slots in use, or all of them where the count passes them. `Table::tasks` and `Returns::held` are
+    // its like: each over its own slots, with its own contract: `Table::tasks` says why no type serves all three.
+    pub fn waiting(&self) -> &[Request]
+        ensures { result.now ≡ waiting_of self.now }
     {
-        let n = self.n;
-        if Queue::CAPACITY <= n {
-            return self;
+        &self.requests[..self.n.min(Queue::CAPACITY) as usize]
+    }
+
+    // A request more, at the end, and its work more. A full queue stays as it is.
+    pub fn push(&mut self, id: u32, work: u32, arrival: u32)
+        ensures { self.new ≡ pushed_queue self.old id work arrival }
+    {
+        if self.n < Queue::CAPACITY {
+            self.requests[self.n as usize] = Request { id, work, arrival };
+            self.n += 1;
+            self.backlog = self.backlog.saturating_add(work);
         }
-        let backlog = lists::saturating_add(self.backlog, work);
-        let at = n as usize;
-        let mut next = self;
-        next.requests[at] = Request { id, work, arrival };
-        next.n = n + 1;
-        next.backlog = backlog;
-        next
     }
 
     // Step 5: the head loses one tick of work, and at zero it leaves; one tick less waits. An empty queue stays as it is, and one whose
     // count passes its slots.
-    pub fn serve(self) -> Queue
-        ensures { result ≡ served_queue self }
+    pub fn serve(&mut self)
+        ensures { self.new ≡ served_queue self.old }
     {
-        let n = self.n;
-        if n < 1 {
-            return self;
+        if self.n < 1 || Queue::CAPACITY < self.n {
+            return;
         }
-        if Queue::CAPACITY < n {
-            return self;
+        if self.requests[0].work <= 1 {
+            self.remove_head();
+        } else {
+            self.requests[0].work -= 1;
         }
-        let mut head = self.requests[0];
-        let work = head.work;
-        if work <= 1 {
-            return self.without_head();
-        }
-        head.work = work - 1;
-        let backlog = lists::saturating_sub(self.backlog, 1);
-        let mut next = self;
-        next.requests[0] = head;
-        next.backlog = backlog;
-        next
+        self.backlog = self.backlog.saturating_sub(1);
     }
 
     // Refusal 11, of the queue: no more wait than there are slots, each request that waits keeps its limits, and the backlog is the sum of
     // their work.
-    pub fn fits(self, clock: u32) -> bool
-        ensures { result ≡ queue_fits clock self }
+    pub fn fits(&self, clock: u32) -> bool
+        ensures { result ≡ queue_fits clock self.now }
     {
-        let waiting = self.n;
-        if Queue::CAPACITY < waiting {
+        if Queue::CAPACITY < self.n {
             return false;
         }
-        let requests = self.requests;
-        let backlog = self.backlog;
-        let end = waiting as usize;
         let mut sum: u32 = 0;
-        let mut i: usize = 0;
-        while i < end {
-            let request = requests[i];
-            if request.fits(clock) {
-                sum += request.work;
-                i += 1;
-            } else {
+        for request in self.waiting() {
+            if !request.fits(clock) {
                 return false;
             }
+            sum += request.work;
         }
-        backlog == sum
+        self.backlog == sum
     }
 
     // The others move up by one slot; the last slot in use keeps what it held.
-    fn without_head(self) -> Queue
-        requires { (1 ≤ self.n) × (self.n ≤ max_waiting) }
-        ensures { result ≡ queue_with self (drop 1 (waiting_of self)) (self.backlog - 1) }
+    fn remove_head(&mut self)
+        requires low { 1 ≤ self.old.n }
+        requires high { self.old.n ≤ max_waiting }
+        ensures { self.new ≡ queue_with self.old (drop 1 (waiting_of self.old)) self.old.backlog }
     {
-        let n = self.n as usize;
-        let mut requests = self.requests;
-        let mut i: usize = 0;
-        while i + 1 < n {
-            let next = requests[i + 1];
-            requests[i] = next;
-            i += 1;
-        }
-        Queue {
-            requests,
-            n: self.n - 1,
-            backlog: lists::saturating_sub(self.backlog, 1),
-        }
+        self.requests.copy_within(1..self.n as usize, 0);
+        self.n -= 1;
     }
 }
 
-// What a tick finishes: nothing, or a request with its response, the ticks from its arrival to the end of the tick.
-#[derive(Clone, Copy)]
-pub enum Finish {
-    Nothing,
-    Finished { id: u32, response: u32 },
+// A request that a tick finishes, and its response: the ticks from its arrival to the end of the tick.
+#[derive(Debug, Clone, Copy, PartialEq, Eq)]
+pub struct Finished {
+    pub id: u32,
+    pub response: u32,
 }

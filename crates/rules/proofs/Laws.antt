@@ -1,8 +1,8 @@
 -- What the calls keep: a model written over a state reads back, a fit state's accepted calls leave it fit, and so every state
 -- that calls reach from the fresh one of a table that passes is fit.
-use Rattle.std.specs.Prelude.{ℕ, zero, suc, ◌+◌, ◌≤◌, ◌<◌, ◌≡◌, refl, Bool, true, false, cond, List, [], ◌∷◌, length, take, replicate, leb, ltb}
+use Rattle.std.specs.Prelude.{ℕ, zero, suc, ◌+◌, ◌≤◌, ◌<◌, ◌≡◌, refl, Bool, true, false, cond, List, [], ◌∷◌, length, take, replicate, leb, ltb, Ok}
 use Rattle.std.proofs.Common.{arith, ap, sym, subst, ◌∙◌, length-take, length-append, length-set, length-take-le, leb-true, le-leb, ltb-true}
-use Rattle.lists.specs.Lists.{count, zip_with, all, all_with, overlay_length, take_overlay, zip_length}
+use Rattle.lists.specs.Lists.{count, zip_with, all_with, overlay_length, take_overlay, zip_length}
 use Rattle.lists.specs.Tests.{never, and_join, either}
 use Rattle.server.specs.Limits.{last_clock}
 use Rattle.server.specs.declared.Server.{Server}
@@ -21,7 +21,6 @@ use Rattle.queue.specs.Laws.{fit-later, fit-presented, presented-work}
 use Rattle.table.specs.declared.Task.{Task}
 use Rattle.table.specs.declared.Table.{Table}
 use Rattle.table.specs.declared.State.{State}
-use Rattle.table.specs.declared.Checked.{Checked}
 use Rattle.table.specs.declared.Refusal.{Refusal}
 use Rattle.table.specs.Limits.{max_tasks}
 use Rattle.table.specs.Refusal.{passed}
@@ -153,7 +152,7 @@ pub request-accepted : (s : State) (work : ℕ) → passed (request_check s work
 request-accepted s work e = go (fit s) refl (work_fits work) refl (ltb s.queue.n max_waiting) refl e
   where
     go : (a : Bool) → fit s ≡ a → (b : Bool) → work_fits work ≡ b → (c : Bool) → ltb s.queue.n max_waiting ≡ c →
-        passed (unless a Refusal.UnfitState (unless b Refusal.BadWork (unless c Refusal.QueueFull Checked.Passed))) ≡ true → Accepted s work
+        passed (unless a Refusal.UnfitState (unless b Refusal.BadWork (unless c Refusal.QueueFull (Ok tt)))) ≡ true → Accepted s work
     go true ea true eb true ec p = record { fits = ea; allowed = eb; room = ltb-true _ _ ec }
     go true ea true eb false ec p = never refl p
     go true ea false eb c ec p = never refl p
@@ -270,7 +269,7 @@ unfolding Kept
 tick-kept s h = go (fit s) h.0 (clock_allows s 1) refl
   where
     go : (a : Bool) → a ≡ true → (b : Bool) → clock_allows s 1 ≡ b →
-        Kept (tick_by (unless a Refusal.UnfitState (unless b Refusal.ClockSpent Checked.Passed)) s).state
+        Kept (tick_by (unless a Refusal.UnfitState (unless b Refusal.ClockSpent (Ok tt))) s).state
     go true ea true eb = tick-fit s h.1 h.0 eb
     go true ea false eb = h
     go false ea b eb = never refl ea
@@ -280,7 +279,7 @@ unfolding Kept
 run-kept s k lent h = go (fit s) h.0 (clock_allows s k) refl (leb k lent)
   where
     go : (a : Bool) → a ≡ true → (b : Bool) → clock_allows s k ≡ b → (c : Bool) →
-        Kept (cond (passed (unless a Refusal.UnfitState (unless b Refusal.ClockSpent (unless c Refusal.ShortRecord Checked.Passed)))) (run_state k s) s)
+        Kept (cond (passed (unless a Refusal.UnfitState (unless b Refusal.ClockSpent (unless c Refusal.ShortRecord (Ok tt))))) (run_state k s) s)
     go true ea true eb true = run-fit k s h.1 h.0 eb
     go true ea true eb false = h
     go true ea false eb c = h

@@ -4,3 +4,4 @@ pub mod Idle
 pub mod Laws
 pub mod ServerKept
 pub mod WaitingLaws
+pub mod Says

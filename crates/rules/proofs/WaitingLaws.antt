@@ -1,12 +1,11 @@
 -- Request 8/13: what follows for the work that waits.
-use Rattle.std.specs.Prelude.{◌≤◌, ◌≡◌, refl, Bool, true, false, cond, ◌&&◌, ltb}
+use Rattle.std.specs.Prelude.{◌≤◌, ◌≡◌, refl, Bool, true, false, cond, ◌&&◌, ltb, Ok}
 use Rattle.std.proofs.Common.{arith, length-take}
 use Rattle.lists.specs.Tests.{never}
 use Rattle.server.specs.Whole.{room_for}
 use Rattle.queue.specs.Queue.{max_backlog, waiting_work, waits, waiting_of}
 use Rattle.queue.specs.Laws.{most_work_lem}
 use Rattle.table.specs.declared.State.{State}
-use Rattle.table.specs.declared.Checked.{Checked}
 use Rattle.table.specs.Model.{TaskSet, Model}
 use Rattle.table.specs.State.{fit}
 use Rattle.table.specs.Facts.{StateFacts, fit-facts}
@@ -30,7 +29,7 @@ request-waits p m e =
     go false false false false some e = never refl e
 
 -- "A new call returns the figure and it equals the sum over the queue": of every fit state
-pub waiting-sum : (s : State) → fit s ≡ true → waiting_call s ≡ record { answer = Checked.Passed; work = waiting_work (waiting_of s.queue) }
+pub waiting-sum : (s : State) → fit s ≡ true → waiting_call s ≡ Ok (waiting_work (waiting_of s.queue))
 waiting-sum s e = rw (e, (fit-facts s e).backlog)
 
 -- the figure of a fit state is at most 24 × 60,000

@@ -1,5 +1,5 @@
 -- Cases of the calls: each refusal in its order and at its limit, what a refused call leaves alone, and what a run writes.
-use Rattle.std.specs.Prelude.{ℕ, zero, suc, ◌+◌, ◌≡◌, refl, true, false, List, [], ◌∷◌, map, replicate}
+use Rattle.std.specs.Prelude.{ℕ, zero, suc, ◌+◌, ◌≡◌, refl, true, false, List, [], ◌∷◌, map, replicate, Err, Result, Ok}
 use Rattle.lists.specs.Lists.{overlay}
 use Rattle.server.specs.declared.Stretch.{Stretch}
 use Rattle.server.specs.Returns.{max_held, fresh_returns}
@@ -8,10 +8,11 @@ use Rattle.table.specs.declared.State.{State}
 use Rattle.table.specs.Refusal.{number, number_of}
 use Rattle.table.specs.Model.{model_of}
 use Rattle.table.specs.State.{fresh_state}
-use Rattle.rules.specs.declared.TickAnswer.{TickAnswer}
+use Rattle.rules.specs.declared.Ticked.{Ticked}
 use Rattle.rules.specs.declared.Entry.{Entry}
-use Rattle.rules.specs.Calls.{request_call, tick_call, run_call, run_list, run_state, waiting_call}
+use Rattle.rules.specs.Calls.{request_call, tick_call, run_call, run_list, run_state, waiting_call, told}
 use Rattle.rules.specs.Play.{task, server, table, code_of, state_at}
+use Rattle.table.specs.declared.Refusal.{Refusal}
 
 abbrev base : State
 base = fresh_state (table (task 3 6 2 6 ∷ []) (server 2 0 5 2))
@@ -89,9 +90,9 @@ idly = record {
   returns = fresh_returns;
 }
 
-abbrev refusal_of : TickAnswer → ℕ
-refusal_of (TickAnswer.Ran o d f) = 0
-refusal_of (TickAnswer.Refused r) = number r
+abbrev refusal_of : Result Ticked Refusal → ℕ
+refusal_of (Ok x) = 0
+refusal_of (Err r) = number r
 
 abbrev entry : ℕ → ℕ → ℕ → Entry
 entry k i d = record { kind = k; id = i; drops = d }
@@ -155,10 +156,10 @@ pub record CallCases : Type 0 where
   pub tick-figured : map (λ b. refusal_of (tick_call (figured b)).answer) (0 ∷ 11 ∷ 12 ∷ 13 ∷ []) ≡ 11 ∷ 11 ∷ 0 ∷ 11 ∷ []
   pub run-figured : map (λ b. number_of (run_call (figured b) 0 0).answer) (0 ∷ 11 ∷ 12 ∷ 13 ∷ []) ≡ 11 ∷ 11 ∷ 0 ∷ 11 ∷ []
   -- the waiting call: the figure, or 11 with 0 beside it, and no other refusal
-  pub waiting-figured : map (λ b. number_of (waiting_call (figured b)).answer) (0 ∷ 11 ∷ 12 ∷ 13 ∷ []) ≡ 11 ∷ 11 ∷ 0 ∷ 11 ∷ []
-  pub waiting_work_lem : map (λ b. (waiting_call (figured b)).work) (0 ∷ 11 ∷ 12 ∷ 13 ∷ []) ≡ 0 ∷ 0 ∷ 12 ∷ 0 ∷ []
-  pub waiting_few : map (λ n. (waiting_call (waiting n)).work) (0 ∷ 1 ∷ 24 ∷ 25 ∷ []) ≡ 0 ∷ 4 ∷ 96 ∷ 0 ∷ []
-  pub waiting-last : map (λ c. number_of (waiting_call (at_clock c)).answer) (4_000_000_000 ∷ 4_000_000_001 ∷ []) ≡ 0 ∷ 11 ∷ []
+  pub waiting-figured : map (λ b. number_of (waiting_call (figured b))) (0 ∷ 11 ∷ 12 ∷ 13 ∷ []) ≡ 11 ∷ 11 ∷ 0 ∷ 11 ∷ []
+  pub waiting_work_lem : map (λ b. told (waiting_call (figured b))) (0 ∷ 11 ∷ 12 ∷ 13 ∷ []) ≡ 0 ∷ 0 ∷ 12 ∷ 0 ∷ []
+  pub waiting_few : map (λ n. told (waiting_call (waiting n))) (0 ∷ 1 ∷ 24 ∷ 25 ∷ []) ≡ 0 ∷ 4 ∷ 96 ∷ 0 ∷ []
+  pub waiting-last : map (λ c. number_of (waiting_call (at_clock c))) (4_000_000_000 ∷ 4_000_000_001 ∷ []) ≡ 0 ∷ 11 ∷ []
 
 pub call_cases : CallCases
 unfolding overlay

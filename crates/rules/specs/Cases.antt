@@ -5,12 +5,12 @@ use Rattle.server.specs.declared.Server.{Server}
 use Rattle.server.specs.Whole.{whole}
 use Rattle.table.specs.declared.Task.{Task}
 use Rattle.table.specs.Model.{model_of}
-use Rattle.table.specs.State.{set_up_call}
+use Rattle.table.specs.State.{fresh_state}
 use Rattle.rules.specs.Play.{task, server, table, Arrival, at, played, state_at, code_of, responses, budgets, backlogs}
 
 -- each tick as a number, the responses, and the budget after each tick
 abbrev shows : List Task → Server → List Arrival → ℕ → List ℕ × List ℕ × List ℕ
-shows xs s cs k = (map code_of (played xs s cs k), responses (played xs s cs k), budgets cs k (set_up_call (table xs s)).state)
+shows xs s cs k = (map code_of (played xs s cs k), responses (played xs s cs k), budgets cs k (fresh_state (table xs s)))
 
 pub record TickCases : Type 0 where
   -- drop and release fall in one tick where D = p, and the drop counts
@@ -68,7 +68,7 @@ pub record TickCases : Type 0 where
       (1 ∷ 1 ∷ 1 ∷ 9 ∷ 9 ∷ 0 ∷ 1 ∷ 1 ∷ 1 ∷ 9 ∷ [], 2 ∷ 3 ∷ [], 0 ∷ 0 ∷ 0 ∷ 0 ∷ 0 ∷ 0 ∷ 0 ∷ 0 ∷ 0 ∷ 0 ∷ [])
   -- 8/13: the figure after each tick of the same play under every kind, background too: a tick by the budget and an idle one take one off, a
   -- task's and nobody's none, and the request of tick 8 adds its work
-  pub backlog-each : map (λ s. backlogs (at 0 7 7 ∷ at 8 8 1 ∷ []) 12 (set_up_call (table (task 4 8 2 8 ∷ []) s)).state)
+  pub backlog-each : map (λ s. backlogs (at 0 7 7 ∷ at 8 8 1 ∷ []) 12 (fresh_state (table (task 4 8 2 8 ∷ []) s)))
       (server 0 1 0 0 ∷ server 1 0 5 2 ∷ server 2 0 5 2 ∷ server 3 0 5 2 ∷ server 4 0 5 2 ∷ []) ≡
       (6 ∷ 5 ∷ 4 ∷ 3 ∷ 3 ∷ 3 ∷ 2 ∷ 1 ∷ 1 ∷ 0 ∷ 0 ∷ 0 ∷ [])
       ∷ (6 ∷ 5 ∷ 4 ∷ 3 ∷ 3 ∷ 2 ∷ 1 ∷ 1 ∷ 1 ∷ 0 ∷ 0 ∷ 0 ∷ [])
@@ -76,7 +76,7 @@ pub record TickCases : Type 0 where
       ∷ (6 ∷ 5 ∷ 4 ∷ 3 ∷ 2 ∷ 1 ∷ 1 ∷ 1 ∷ 1 ∷ 0 ∷ 0 ∷ 0 ∷ [])
       ∷ (6 ∷ 5 ∷ 4 ∷ 3 ∷ 3 ∷ 2 ∷ 1 ∷ 1 ∷ 1 ∷ 0 ∷ 0 ∷ 0 ∷ []) ∷ []
   -- the whole model after a play: what is left, what waits, the server and the clock
-  pub sporadic_model : model_of (state_at (at 1 7 2 ∷ at 3 8 4 ∷ at 6 9 1 ∷ []) 8 (set_up_call (table (task 2 6 2 6 ∷ task 0 9 3 9 ∷ []) (server 3 1 5 2))).state) ≡
+  pub sporadic_model : model_of (state_at (at 1 7 2 ∷ at 3 8 4 ∷ at 6 9 1 ∷ []) 8 (fresh_state (table (task 2 6 2 6 ∷ task 0 9 3 9 ∷ []) (server 3 1 5 2)))) ≡
       record {
         lefts = 0 ∷ 1 ∷ [];
         queue = record { id = 8; work = 2; arrival = 3 } ∷ record { id = 9; work = 1; arrival = 6 } ∷ [];
@@ -85,7 +85,7 @@ pub record TickCases : Type 0 where
         clock = 8;
       }
   -- the same under polling: the sporadic fields stay 0
-  pub polling_model : model_of (state_at (at 1 7 2 ∷ at 3 8 4 ∷ at 6 9 1 ∷ []) 7 (set_up_call (table (task 2 6 2 6 ∷ task 0 9 3 9 ∷ []) (server 1 1 5 3))).state) ≡
+  pub polling_model : model_of (state_at (at 1 7 2 ∷ at 3 8 4 ∷ at 6 9 1 ∷ []) 7 (fresh_state (table (task 2 6 2 6 ∷ task 0 9 3 9 ∷ []) (server 1 1 5 3)))) ≡
       record {
         lefts = 0 ∷ 0 ∷ [];
         queue = record { id = 8; work = 4; arrival = 3 } ∷ record { id = 9; work = 1; arrival = 6 } ∷ [];
@@ -94,7 +94,7 @@ pub record TickCases : Type 0 where
         clock = 7;
       }
   -- 5/13: under kind 4 ticks 0, 1 and 4 are by the budget and 2, 3 idle: tick 0 has come back, and two stretches are held
-  pub returning_model : model_of (state_at (at 0 7 6 ∷ []) 5 (set_up_call (table (task 9 9 1 9 ∷ []) (server 4 0 4 2))).state) ≡
+  pub returning_model : model_of (state_at (at 0 7 6 ∷ []) 5 (fresh_state (table (task 9 9 1 9 ∷ []) (server 4 0 4 2)))) ≡
       record {
         lefts = 0 ∷ [];
         queue = record { id = 7; work = 1; arrival = 0 } ∷ [];

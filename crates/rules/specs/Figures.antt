@@ -1,15 +1,15 @@
 -- The calls' answers in document 01's figures. "If an answer is an enum, a definition gives this paper's number and values for every case of
--- the enum, and the promises use that definition." The answer of a request and of a run is a `Checked`: table/specs/Refusal gives its
+-- the enum, and the promises use that definition." The answer of a request and of a run is a `Result Unit Refusal`: table/specs/Refusal gives its
 -- figures. A tick's answer has its own here, its occupant's by `entry_by` and its finished request's by `finish_figures`.
-use Rattle.std.specs.Prelude.{ℕ, ◌+◌, Bool, cond, not, leb, ltb}
+use Rattle.std.specs.Prelude.{ℕ, ◌+◌, Bool, cond, not, leb, ltb, Err, None, Ok, Result}
 use Rattle.server.specs.Limits.{last_clock}
-use Rattle.queue.specs.declared.Finish.{Finish}
 use Rattle.queue.specs.Queue.{max_waiting, work_fits, FinishFigures, finish_figures}
 use Rattle.table.specs.declared.State.{State}
+use Rattle.table.specs.declared.Refusal.{Refusal}
 use Rattle.table.specs.Refusal.{number, Figures, ground, no_ground}
 use Rattle.table.specs.State.{fit}
-use Rattle.rules.specs.declared.TickAnswer.{TickAnswer}
 use Rattle.rules.specs.declared.Entry.{Entry}
+use Rattle.rules.specs.declared.Ticked.{Ticked}
 use Rattle.rules.specs.Tick.{Tick}
 use Rattle.rules.specs.Calls.{ticked, entry_by, entry_of}
 
@@ -46,11 +46,11 @@ pub record TickFigures : Type 0 where
 
 -- of a refused tick all but the number is 0
 abbrev pub refused_figures : ℕ → TickFigures
-refused_figures n = record { number = n; entry = record { kind = 0; id = 0; drops = 0 }; finish = finish_figures Finish.Nothing }
+refused_figures n = record { number = n; entry = record { kind = 0; id = 0; drops = 0 }; finish = finish_figures None }
 
-abbrev pub answer_figures : TickAnswer → TickFigures
-answer_figures (TickAnswer.Ran o d f) = record { number = 0; entry = entry_by o d; finish = finish_figures f }
-answer_figures (TickAnswer.Refused r) = refused_figures (number r)
+abbrev pub answer_figures : Result Ticked Refusal → TickFigures
+answer_figures (Ok x) = record { number = 0; entry = entry_by x.occupant x.drops; finish = finish_figures x.finished }
+answer_figures (Err r) = refused_figures (number r)
 
 abbrev pub ran_figures : Tick → TickFigures
 ran_figures x = record { number = 0; entry = entry_of x; finish = finish_figures x.finish }

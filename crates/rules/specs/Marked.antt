@@ -1,13 +1,14 @@
 -- Document 01's marked cases, by the calls on the structs, as one table. Where request 5/13 overrules a figure, the new one stands here.
-use Rattle.std.specs.Prelude.{ℕ, ◌≡◌, refl, true, false, List, [], ◌∷◌, map, take}
+use Rattle.std.specs.Prelude.{ℕ, ◌≡◌, refl, true, false, List, [], ◌∷◌, map, take, None, Result, Some, Option, Ok}
 use Rattle.lists.specs.Lists.{overlay}
 use Rattle.server.specs.declared.Server.{Server}
-use Rattle.queue.specs.declared.Finish.{Finish}
+use Rattle.queue.specs.declared.Finished.{Finished}
 use Rattle.table.specs.declared.Task.{Task}
-use Rattle.bounds.specs.Admission.{admission_call}
-use Rattle.rules.specs.declared.TickAnswer.{TickAnswer}
+use Rattle.bounds.specs.Admission.{admission_of}
+use Rattle.rules.specs.declared.Ticked.{Ticked}
 use Rattle.rules.specs.declared.Occupant.{Occupant}
 use Rattle.rules.specs.Play.{task, server, table, Arrival, at, played, responses, drops_of}
+use Rattle.table.specs.declared.Refusal.{Refusal}
 
 -- "One row 3,6,2,6; server s 0, P 5, B 2 (background: s 1, P 0, B 0); id 7, work 4, presented at tick 3."
 abbrev row : List Task
@@ -32,22 +33,25 @@ early = at 0 7 4 ∷ []
 
 -- the bound of a table of one task
 abbrev bound : List Task → Server → List ℕ
-bound xs s = take 1 (admission_call (table xs s)).bounds
+bound xs s = take 1 (admission_of (table xs s)).bounds
 
-abbrev idle : TickAnswer
-idle = TickAnswer.Ran Occupant.Idle 0 Finish.Nothing
+abbrev ran : Occupant → ℕ → Option Finished → Result Ticked Refusal
+ran o d f = Ok (record { occupant = o; drops = d; finished = f })
 
-abbrev serving : TickAnswer
-serving = TickAnswer.Ran (Occupant.Request 7) 0 Finish.Nothing
+abbrev idle : Result Ticked Refusal
+idle = ran Occupant.Idle 0 None
+
+abbrev serving : Result Ticked Refusal
+serving = ran (Occupant.Request 7) 0 None
 
 pub record MarkedCases : Type 0 where
   -- the listing: its B and V lines, its X lines and its F line
   pub listing-bound : bound row (one 2) ≡ 6 ∷ []
-  pub listing-server : (admission_call (table row (one 2))).serverbound ≡ 2
-  pub listing-admitted : (admission_call (table row (one 2))).admitted ≡ true
+  pub listing-server : (admission_of (table row (one 2))).serverbound ≡ 2
+  pub listing-admitted : (admission_of (table row (one 2))).admitted ≡ true
   pub listing-ticks : played row (one 2) once 8 ≡
-      idle ∷ idle ∷ idle ∷ serving ∷ serving ∷ serving ∷ TickAnswer.Ran (Occupant.Request 7) 0 (Finish.Finished 7 4)
-      ∷ TickAnswer.Ran (Occupant.Task 0) 0 Finish.Nothing ∷ []
+      idle ∷ idle ∷ idle ∷ serving ∷ serving ∷ serving ∷ ran (Occupant.Request 7) 0 (Some (record { id = 7; response = 4 }))
+      ∷ ran (Occupant.Task 0) 0 None ∷ []
   -- "Responses: background 6, .. deferrable 4 .. (four cases)." 5/13: "In 01's marked cases polling now responds in 6 and sporadic in 6" (for 9 and 7)
   pub background_responds : responses (played row (server 0 1 0 0) once 10) ≡ 6 ∷ []
   pub polling_responds : responses (played row (one 1) once 9) ≡ 6 ∷ []
@@ -65,7 +69,7 @@ pub record MarkedCases : Type 0 where
   pub sporadic_bound : bound row (one 3) ≡ 4 ∷ []
   -- "With D = 5 deferrable: bound 0, and tick 8 drops one (two)."
   pub tight-bound : bound tight (one 2) ≡ 0 ∷ []
-  pub tight-admitted : (admission_call (table tight (one 2))).admitted ≡ false
+  pub tight-admitted : (admission_of (table tight (one 2))).admitted ≡ false
   pub tight-drops : map drops_of (played tight (one 2) once 9) ≡ 0 ∷ 0 ∷ 0 ∷ 0 ∷ 0 ∷ 0 ∷ 0 ∷ 0 ∷ 1 ∷ []
   -- "Polling, works of 1 at ticks 5 and 6": 5/13, "the polling case with works at ticks 5 and 6 now responds in 1" (for 5)
   pub polling_twice : responses (played row (one 1) (at 5 7 1 ∷ at 6 8 1 ∷ []) 12) ≡ 1 ∷ 1 ∷ []

@@ -1,14 +1,14 @@
 -- One tick, steps 1 to 6 of document 01, in parts: the tasks (steps 1 and 2), the server (step 3), the choice (step 4), and what
 -- the choice does to the tasks, the queue and the server (step 5). Only the queue's part looks inside the queue: the others see
 -- whether a request waits, and the server also whether none waits after the tick's work.
-use Rattle.std.specs.Prelude.{ℕ, suc, ◌+◌, ◌-◌, Bool, true, false, cond, not, ◌&&◌, List, [], ◌∷◌, take, get_or, set, ltb}
+use Rattle.std.specs.Prelude.{ℕ, suc, ◌+◌, ◌-◌, Bool, true, false, cond, not, ◌&&◌, List, [], ◌∷◌, take, get_or, set, ltb, None, Option}
 use Rattle.lists.specs.Lists.{any, count, zip_with}
 use Rattle.lists.specs.Time.{due}
 use Rattle.server.specs.declared.Seen.{Seen}
 use Rattle.server.specs.Kind.{Kind, kind_of}
 use Rattle.server.specs.Whole.{Whole, replenish_whole, eligible_whole, consume_whole}
 use Rattle.queue.specs.declared.Request.{Request}
-use Rattle.queue.specs.declared.Finish.{Finish}
+use Rattle.queue.specs.declared.Finished.{Finished}
 use Rattle.queue.specs.Queue.{waits, head_id, served, finished}
 use Rattle.table.specs.declared.Task.{Task}
 use Rattle.table.specs.Model.{TaskSet, Model}
@@ -97,9 +97,9 @@ worked_queue Turn.Spare q = served q
 abbrev pub worked_backlog : Turn → ℕ → ℕ
 worked_backlog turn backlog = cond (to_request turn) (backlog - 1) backlog
 
-abbrev pub finish_of : ℕ → Turn → List Request → Finish
-finish_of t Turn.Nobody q = Finish.Nothing
-finish_of t (Turn.Task i) q = Finish.Nothing
+abbrev pub finish_of : ℕ → Turn → List Request → Option Finished
+finish_of t Turn.Nobody q = None
+finish_of t (Turn.Task i) q = None
 finish_of t Turn.Budget q = finished t q
 finish_of t Turn.Spare q = finished t q
 
@@ -154,7 +154,7 @@ seen_at p m = seen_by m.clock m.queue (turn_at p m) (above_at p m) (busy_at p m)
 pub record Tick : Type 0 where
   pub occupant : Occupant
   pub drops : ℕ
-  pub finish : Finish
+  pub finish : Option Finished
   pub next : Model
 
 -- Steps 1 to 6. "The clock rises by 1."

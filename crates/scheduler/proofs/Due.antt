@@ -3,23 +3,21 @@
 use Prim.Native.Nat.{ℕ, zero, suc, ◌+◌, ◌-◌, ◌*◌, ◌/◌, ◌≤◌, ◌<◌}
 use native.Mathlib.Omega.{arith}
 use native.Mathlib.Nat.{div-add-mod', mod-lt, lt_of_mul-lt-mul_right}
-use mathlib.Core.Path.{◌≡◌, refl, sym, ap, ap₂, subst, ◌∙◌}
-use mathlib.Core.Bool.{Bool, true, false, cond, ◌&&◌}
+use mathlib.Core.Path.{◌≡◌, refl, sym, ap₂, subst, ◌∙◌}
+use mathlib.Core.Bool.{Bool, true, false, cond}
 use mathlib.Core.List.{List, [], ◌∷◌}
 use lib.ListN.{length, take, get_or}
-use lib.Dec.{leb, ltb, eqb}
-use borrow.Author.Tests.{lt-leb, lt-ltb, le-ltb, ltb-true, ltb-false, leb-true, leb-false, eqb-true, eqb-false}
+use lib.Dec.{ltb, eqb}
+use borrow.Author.Tests.{lt-leb, lt-ltb, ltb-true, ltb-false, eqb-true, eqb-false}
 use Rattle.lists.specs.Lists.{overlay_take}
 use Rattle.lists.specs.Loops.{and_false}
-use Rattle.lists.specs.Tests.{never, and_split}
 use Rattle.lists.specs.Time.{due}
 use Rattle.lists.specs.Count.{due_true, due-at}
 use Rattle.table.specs.declared.Task.{Task}
 use Rattle.table.specs.Facts.{TaskLimits, no_task}
 use Rattle.rules.specs.Tick.{is_open, expires, dropped, opened, opened_all}
-use Rattle.scheduler.specs.declared.opening.Opened.{Opened}
-use Rattle.lists.specs.Numbers.{bit_of, lesser_left, lesser_right}
-use Rattle.scheduler.specs.Opening.{since, next_due, soonest, Rests, Calm, calm_after, task_step, opened_by}
+use Rattle.std.proofs.Math.Nat.{min-le_left, min-le_right}
+use Rattle.scheduler.specs.Opening.{since, next_due, soonest, Rests, Calm, calm_after, left_opened, drops_of}
 
 pub positive : (n : ℕ) → (n ≡ 0 → ⊥) → 0 < n
 positive zero f = absurd (f refl)
@@ -71,26 +69,10 @@ module _ (t : ℕ) (x : Task) (limits : TaskLimits x) where
         let e : t ≡ x.phase + n * x.period = omega (arith, is) in
         subst (λ (u : ℕ). due u x.phase x.period ≡ true) (sym e) (due-at x.phase x.period n)
 
-    not_released : 0 < since t x → due t x.phase x.period ≡ false
-    not_released h = between t x.phase x.period n (omega (arith, is)) (omega (arith, is, since-short))
-
     -- a deadline at the release: that of the job before
     late-at_release : since t x ≡ 0 → x.period ≤ x.deadline → x.phase < t → due t (x.phase + x.deadline) x.period ≡ true
     late-at_release z a b =
         at_release_late x.phase x.period x.deadline (omega (arith, limits.some, limits.within)) limits.constrained n t (omega (arith, is)) a b
-
-    not_late-at_release : since t x ≡ 0 → leb x.period x.deadline && ltb x.phase t ≡ false → due t (x.phase + x.deadline) x.period ≡ false
-    not_late-at_release z e = by (leb x.period x.deadline) (ltb x.phase t) refl refl e
-      where
-        by : (a b : Bool) → leb x.period x.deadline ≡ a → ltb x.phase t ≡ b → a && b ≡ false → due t (x.phase + x.deadline) x.period ≡ false
-        by true true ea eb h = never h refl
-        by true false ea eb h =
-            let le : t ≤ x.phase = ltb-false x.phase t eb in
-            early t (x.phase + x.deadline) x.period (omega (arith, limits.some, limits.within))
-        by false b ea eb h =
-            let lt : x.deadline < x.period = leb-false x.period x.deadline ea in
-            before-deadline x.phase x.period x.deadline (omega (arith, limits.some, limits.within)) limits.constrained n t
-            (omega (arith, is)) (omega (arith, is, limits.some, limits.within))
 
     -- before the deadline, at it, after it
     not_yet_late : 0 < since t x → since t x < x.deadline → due t (x.phase + x.deadline) x.period ≡ false
@@ -135,69 +117,50 @@ module _ (t : ℕ) (x : Task) (limits : TaskLimits x) where
       by true e b = rests_early u b
       by false e b = later (ltb-false _ _ e) (ltb (since t x) x.deadline) refl b
 
-  -- ---- steps 1 and 2: b, it is released; c, its job is cut off
+  -- ---- steps 1 and 2
   module _ (l : ℕ) where
-    stepped : (b c : Bool) (next : ℕ) → due t x.phase x.period ≡ b → expires t x l ≡ c → next ≡ next_due t x →
-        record { left = cond b x.exec (cond c 0 l); drops = bit_of c; next = next } ≡ task_step t x l
-    stepped b c next eb ec en = rw (en, eb, ec)
-
-    cut : 0 < l → due t (x.phase + x.deadline) x.period ≡ true → expires t x l ≡ true
-    cut h e = rw (lt-ltb 0 l h, e)
-
     not_due : due t (x.phase + x.deadline) x.period ≡ false → expires t x l ≡ false
     not_due e = rw e (and_false (is_open l))
 
-    pub step-early : t < x.phase → record { left = l; drops = 0; next = x.phase } ≡ task_step t x l
-    step-early h =
-        let r = rests_early t h in
-        stepped false false x.phase r.0 (not_due r.1) (rw (lt-ltb t x.phase h))
+    module _ (from : x.phase ≤ t) (some : 0 < l) where
+      is_due : expires t x l ≡ due t (x.phase + x.deadline) x.period
+      is_due = rw (lt-ltb 0 l some)
 
-    module _ (from : x.phase ≤ t) where
-      next-before : since t x < x.deadline → t + (x.deadline - since t x) ≡ next_due t x
-      next-before h = rw (le-ltb t x.phase from, lt-ltb (since t x) x.deadline h)
-
-      next-after : x.deadline ≤ since t x → t + (x.period - since t x) ≡ next_due t x
-      next-after h = rw (le-ltb t x.phase from, le-ltb (since t x) x.deadline h)
-
-      next-released : since t x ≡ 0 → t + x.deadline ≡ next_due t x
-      next-released z =
-          let e : x.deadline ≡ x.deadline - since t x = omega arith in
-          ap (λ (k : ℕ). t + k) e ∙ next-before (omega (arith, limits.some, limits.within))
-
-      pub step_cut : since t x ≡ 0 → ltb 0 l && leb x.period x.deadline && ltb x.phase t ≡ true →
-          record { left = x.exec; drops = 1; next = t + x.deadline } ≡ task_step t x l
-      step_cut z e =
-          let a = and_split (ltb 0 l && leb x.period x.deadline) (ltb x.phase t) e in
-          let b = and_split (ltb 0 l) (leb x.period x.deadline) a.0 in
-          stepped true true (t + x.deadline) (released from z) (cut (ltb-true _ _ b.0) (late-at_release from z (leb-true _ _ b.1) (ltb-true _ _ a.1))) (next-released z)
-
-      pub step_release : since t x ≡ 0 → ltb 0 l && leb x.period x.deadline && ltb x.phase t ≡ false →
-          record { left = x.exec; drops = 0; next = t + x.deadline } ≡ task_step t x l
-      step_release z e = stepped true false (t + x.deadline) (released from z) (by (ltb 0 l) refl e) (next-released z)
+      -- a deadline shorter than the period falls so many ticks after the release
+      pub expires_short : x.deadline < x.period → eqb (since t x) x.deadline ≡ expires t x l
+      expires_short h = by (eqb (since t x) x.deadline) refl ∙ sym is_due
         where
-          by : (o : Bool) → ltb 0 l ≡ o → o && leb x.period x.deadline && ltb x.phase t ≡ false → expires t x l ≡ false
-          by true eo h = not_due (not_late-at_release from z h)
-          by false eo h = rw eo
+          by : (b : Bool) → eqb (since t x) x.deadline ≡ b → b ≡ due t (x.phase + x.deadline) x.period
+          by true e = sym (late from (eqb-true _ _ e))
+          by false e =
+              let apart : since t x ≡ x.deadline → ⊥ = eqb-false _ _ e in
+              order (ltb (since t x) x.deadline) refl apart
+            where
+              order : (b : Bool) → ltb (since t x) x.deadline ≡ b → (since t x ≡ x.deadline → ⊥) → false ≡ due t (x.phase + x.deadline) x.period
+              order true o apart =
+                  let lt : since t x < x.deadline = ltb-true _ _ o in
+                  sym (before-deadline x.phase x.period x.deadline (omega (arith, limits.some, limits.within)) limits.constrained (n from) t
+                  (omega (arith, is from)) (omega (arith, is from)))
+              order false o apart =
+                  let le : x.deadline ≤ since t x = ltb-false _ _ o in
+                  sym (past-late from (omega arith))
 
-      pub step_waits : (since t x ≡ 0 → ⊥) → since t x < x.deadline →
-          record { left = l; drops = 0; next = t + (x.deadline - since t x) } ≡ task_step t x l
-      step_waits z h = stepped false false _ (not_released from (positive _ z)) (not_due (not_yet_late from (positive _ z) h)) (next-before h)
-
-      pub step-late : x.deadline ≤ since t x → eqb (since t x) x.deadline && ltb 0 l ≡ true →
-          record { left = 0; drops = 1; next = t + (x.period - since t x) } ≡ task_step t x l
-      step-late h e =
-          let a = and_split (eqb (since t x) x.deadline) (ltb 0 l) e in
-          stepped false true _ (not_released from (omega (arith, limits.some, limits.within))) (cut (ltb-true _ _ a.1) (late from (eqb-true _ _ a.0))) (next-after h)
-
-      pub step_rests : x.deadline ≤ since t x → eqb (since t x) x.deadline && ltb 0 l ≡ false →
-          record { left = l; drops = 0; next = t + (x.period - since t x) } ≡ task_step t x l
-      step_rests h e = stepped false false _ (not_released from (omega (arith, limits.some, limits.within))) (by (eqb (since t x) x.deadline) refl e) (next-after h)
+      -- one that is as long as the period falls at the next release
+      pub expires_long : x.period ≤ x.deadline → since t x ≡ 0 → ltb x.phase t ≡ expires t x l
+      expires_long h z = by (ltb x.phase t) refl ∙ sym is_due
         where
-          by : (c : Bool) → eqb (since t x) x.deadline ≡ c → c && ltb 0 l ≡ false → expires t x l ≡ false
-          by true ec k = rw k
-          by false ec k =
-              let apart : since t x ≡ x.deadline → ⊥ = eqb-false _ _ ec in
-              not_due (past-late from (omega arith))
+          by : (b : Bool) → ltb x.phase t ≡ b → b ≡ due t (x.phase + x.deadline) x.period
+          by true e = sym (late-at_release from z h (ltb-true _ _ e))
+          by false e =
+              let le : t ≤ x.phase = ltb-false x.phase t e in
+              sym (early t (x.phase + x.deadline) x.period (omega (arith, limits.some, limits.within)))
+
+      pub expires_between : x.period ≤ x.deadline → (since t x ≡ 0 → ⊥) → eqb (since t x) 0 ≡ expires t x l
+      expires_between h z = by (eqb (since t x) 0) refl
+        where
+          by : (b : Bool) → eqb (since t x) 0 ≡ b → b ≡ expires t x l
+          by true e = absurd (z (eqb-true _ _ e))
+          by false e = sym (not_due (not_yet_late from (positive _ z) (omega (arith, since-short from))))
 
 -- ---- the tasks of a table
 -- the soonest of the next ticks is no later than each of them
@@ -206,11 +169,11 @@ soonest_le t xs zero i h = absurd (omega arith)
 soonest_le t xs (suc n) i h = by (ltb i n) refl (soonest_le t xs n i)
   where
     by : (c : Bool) → ltb i n ≡ c → (i < n → soonest t xs n ≤ next_due t (get_or xs i no_task)) → soonest t xs (suc n) ≤ next_due t (get_or xs i no_task)
-    by true e rest = let lt : i < n = ltb-true i n e in omega (arith, rest lt, lesser_left (soonest t xs n) (next_due t (get_or xs n no_task)))
+    by true e rest = let lt : i < n = ltb-true i n e in omega (arith, rest lt, min-le_left (soonest t xs n) (next_due t (get_or xs n no_task)))
     by false e rest =
         let le : n ≤ i = ltb-false i n e in
         let same : i ≡ n = omega arith in
-        rw same (lesser_right (soonest t xs n) (next_due t (get_or xs n no_task)))
+        rw same (min-le_right (soonest t xs n) (next_due t (get_or xs n no_task)))
 
 -- the calm that is known after tick t lasts
 pub calm-on : (t : ℕ) (xs : List Task) (n c : ℕ) → ((i : ℕ) → i < n → TaskLimits (get_or xs i no_task)) → Calm xs n t c → Calm xs n (t + 1) (calm_after t xs n c)
@@ -242,12 +205,12 @@ module _ (u : ℕ) where
   calm-dropped (suc n) (x ∷ xs) (l ∷ ls) rests =
       rw (rests_opened u x l (rests 0 (omega arith))).1 (calm-dropped n xs ls (λ i k. rests (suc i) (omega arith)))
 
--- the calm goes on, or it is known anew
-module _ (t : ℕ) (xs : List Task) (ls : List ℕ) (n c : ℕ) where
-  pub opens_calm : n ≤ length xs → Calm xs n t c → t < c → record { left = ls; drops = 0; calm = c } ≡ opened_by t xs ls n (calm_after t xs n c)
-  opens_calm few calm h =
-      let rests : (i : ℕ) → i < n → Rests t (get_or xs i no_task) = λ i k. calm t i (omega arith) h k in
-      rw (calm-opened t n xs ls few rests, overlay_take n ls, calm-dropped t n xs ls rests, lt-ltb t c h)
+module _ (t : ℕ) (xs : List Task) (ls : List ℕ) (n c : ℕ) (few : n ≤ length xs) (calm : Calm xs n t c) (h : t < c) where
+  rests : (i : ℕ) → i < n → Rests t (get_or xs i no_task)
+  rests i k = calm t i (omega arith) h k
 
-  pub opens_due : c ≤ t → (o : Opened) → o ≡ opened_by t xs ls n (soonest t xs n) → o ≡ opened_by t xs ls n (calm_after t xs n c)
-  opens_due h o e = e ∙ rw (le-ltb t c h) refl
+  pub calm-left : ls ≡ left_opened t xs ls n
+  calm-left = rw (calm-opened t n xs ls few rests, overlay_take n ls)
+
+  pub calm-drops : 0 ≡ drops_of t xs ls n
+  calm-drops = rw (calm-dropped t n xs ls rests)

@@ -1,7 +1,7 @@
-pub mod Due
-pub mod Given
-pub mod Laws
-pub mod Lent
-pub mod Together
 pub mod Answers
+pub mod Ask
+pub mod Due
+pub mod Known
+pub mod Laws
 pub mod Runs
+pub mod Together

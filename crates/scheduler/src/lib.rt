@@ -1,190 +1,171 @@
-// The calls that move a state, a request, a tick, a run of ticks, and the one that tells the work that waits. A file for each step of a
-// tick has that step's code: `opening` has steps 1 and 2, `replenishment` step 3, `choice` step 4, `work` step 5, and `decision` puts them
-// together with step 6. `ticking` is the tick of the tick call; `running` and `service` are the ticks of a run.
+// The calls that move a state, a request, a tick, a run of ticks, and the one that tells the work that waits; `session` has ticks and
+// requests of one state, one after the other. A file for each step of a tick has that step's code: `opening` has steps 1 and 2, `choice`
+// step 4, `work` step 5, and `ticking` puts them together with steps 3 and 6.
 #![tactic(auto)]
 
-ghost use Rattle.std.specs.Prelude.{length, ◌≡◌};
+ghost use Rattle.std.specs.Prelude.{length, ◌+◌, ◌≤◌, ◌≡◌, true};
+ghost use Rattle.server.specs.Limits.{last_clock};
+ghost use Rattle.server.specs.Returns.{max_held};
+ghost use Rattle.queue.specs.Queue.{max_waiting};
+ghost use Rattle.table.specs.Limits.{max_tasks};
 ghost use Rattle.table.specs.Refusal.{figures};
-ghost use Rattle.rules.specs.Calls.{request_call, tick_call, run_call, run_list, waiting_call};
+ghost use Rattle.table.specs.State.{fit};
+ghost use Rattle.rules.specs.Calls.{request_call, tick_call, run_check, run_call, run_list, run_state, run_entries, waiting_call};
+ghost use Rattle.rules.specs.Laws.{Sized};
 ghost use Rattle.rules.specs.Figures.{request_figures, answer_figures, tick_figures, run_figures, waiting_figures};
-ghost use Rattle.scheduler.specs.Parts.{block_ticks, block_call};
+ghost use Rattle.scheduler.specs.Known.{Known};
 
-use rules::{Entry, Moved, TickAnswer, Ticked, Waiting};
-use running::{check_run, record_tick, settle};
-use service::leave;
-use table::{Checked, Refusal, State, Table};
-use ticking::run_tick;
+use queue::{Queue, Request};
+use rules::{Entry, Ticked};
+use server::{Returns, Stretch};
+pub use session::Session;
+use table::{Refusal, State, Table, Task};
+use ticking::advance;
 
 mod choice;
-mod decision;
 mod opening;
-mod replenishment;
-mod running;
-mod service;
+mod session;
 mod ticking;
 mod work;
 
-// The tick call: one tick at the state's clock, or refusal 11 or 6.
-pub fn tick(state: State) -> Ticked
-    ensures { (result ≡ tick_call state) × (answer_figures result.answer ≡ tick_figures state) }
+// The tick call: one tick at the state's clock, or refusal 11 or 6. Each call begins with the same test: a function for it would hide which refusal
+// comes first.
+pub fn tick(state: &mut State) -> Result<Ticked, Refusal>
+    ensures answer { result ≡ (tick_call state.old).answer }
+    ensures next { state.new ≡ (tick_call state.old).state }
+    ensures in_figures { answer_figures result ≡ tick_figures state.old }
 {
+    know_sizes(state);
     if !state.fit() {
-        return Ticked {
-            answer: TickAnswer::Refused(Refusal::UnfitState),
-            state,
-        };
+        return Err(Refusal::UnfitState);
     }
-    let progress = state.progress;
-    if Table::LAST_CLOCK <= progress.clock {
-        return Ticked {
-            answer: TickAnswer::Refused(Refusal::ClockSpent),
-            state,
-        };
-    }
-    run_tick(state)
+    let mut calm = 0;
+    fit_tick(state, &mut calm)
 }
 
-// The request call: a request presented at the state's clock, or refusal 11, 4 or 5.
-pub fn request(state: State, id: u32, work: u32) -> Moved
-    ensures { (result ≡ request_call state id work) × (figures result.answer ≡ request_figures state work) }
+// The tick call of a fit state.
+fn fit_tick(state: &mut State, calm: &mut u32) -> Result<Ticked, Refusal>
+    requires { Known state.old true calm.old }
+    ensures answer { result ≡ (tick_call state.old).answer }
+    ensures next { state.new ≡ (tick_call state.old).state }
+    ensures in_figures { answer_figures result ≡ tick_figures state.old }
+    ensures known { Known state.new true calm.new }
 {
-    // the state is written once, and not for each answer: to keep the stack of the C call for a request small
-    let table = state.table;
-    let progress = state.progress;
-    let returns = state.returns;
-    let mut queue = state.queue;
-    let full = Table::MAX_WAITING <= queue.n;
-    let mut answer = Checked::Passed;
+    if Table::LAST_CLOCK <= state.progress.clock {
+        return Err(Refusal::ClockSpent);
+    }
+    Ok(advance(state, calm))
+}
+
+// The request call: a request presented at the state's clock, or refusal 11, 4 or 5. C passes its id and its work as two numbers, and a
+// struct of them would be made at each call for nothing.
+pub fn request(state: &mut State, id: u32, work: u32) -> Result<(), Refusal>
+    ensures answer { result ≡ (request_call state.old id work).answer }
+    ensures next { state.new ≡ (request_call state.old id work).state }
+    ensures in_figures { figures result ≡ request_figures state.old work }
+{
+    know_sizes(state);
     if !state.fit() {
-        answer = Checked::Refused(Refusal::UnfitState);
-    } else if (work < 1) | (Table::MAX_WORK < work) {
-        answer = Checked::Refused(Refusal::BadWork);
-    } else if full {
-        answer = Checked::Refused(Refusal::QueueFull);
-    } else {
-        queue = queue.push(id, work, progress.clock);
+        return Err(Refusal::UnfitState);
     }
-    Moved {
-        answer,
-        state: State {
-            table,
-            progress,
-            queue,
-            returns,
-        },
+    fit_request(state, id, work)
+}
+
+// The request call of a fit state.
+fn fit_request(state: &mut State, id: u32, work: u32) -> Result<(), Refusal>
+    requires fits { fit state.old ≡ true }
+    requires sized { Sized state.old }
+    ensures answer { result ≡ (request_call state.old id work).answer }
+    ensures next { state.new ≡ (request_call state.old id work).state }
+    ensures in_figures { figures result ≡ request_figures state.old work }
+{
+    if work < 1 || Table::MAX_WORK < work {
+        return Err(Refusal::BadWork);
     }
+    if Table::MAX_WAITING <= state.queue.n {
+        return Err(Refusal::QueueFull);
+    }
+    state.queue.push(id, work, state.progress.clock);
+    Ok(())
 }
 
 // The waiting call: the ticks of work that wait, as the state holds them, or refusal 11.
-pub fn waiting(state: State) -> Waiting
-    ensures { (result ≡ waiting_call state) × (figures result.answer ≡ waiting_figures state) }
+pub fn waiting(state: &State) -> Result<u32, Refusal>
+    ensures answer { result ≡ waiting_call state.now }
+    ensures in_figures { figures result ≡ waiting_figures state.now }
 {
     if !state.fit() {
-        let unfit = Checked::Refused(Refusal::UnfitState);
-        return Waiting {
-            answer: unfit,
-            work: 0,
-        };
+        return Err(Refusal::UnfitState);
     }
-    let queue = state.queue;
-    Waiting {
-        answer: Checked::Passed,
-        work: queue.backlog,
-    }
+    Ok(state.queue.backlog)
 }
 
-// A run of a block of ticks at most, whose record comes by value.
-#[derive(Clone, Copy)]
-pub struct Recording {
-    pub answer: Checked,
-    pub entries: [Entry; Recording::TICKS],
-    pub state: State,
-}
-
-impl Recording {
-    // How many ticks a block has.
-    pub const TICKS: usize = 32;
-}
-
-// The run call with a list of idle entries, as many as a block has: a caller that lends none has the record of the ticks all the same.
-pub fn run_block(state: State, k: u32) -> Recording
-    ensures { (result ≡ block_call state k) × (figures result.answer ≡ run_figures state k block_ticks) }
+// The run call: k ticks, the record of each in the lent list, or refusal 11, 6 or 10. Fitness is looked at once, and the tasks only where
+// the calm ends.
+pub fn run(state: &mut State, k: u32, entries: &mut [Entry]) -> Result<(), Refusal>
+    ensures answer { result ≡ (run_call state.old k (length entries.old)).answer }
+    ensures next { state.new ≡ (run_call state.old k (length entries.old)).state }
+    ensures record { entries.new ≡ run_list state.old k entries.old }
+    ensures in_figures { figures result ≡ run_figures state.old k (length entries.old) }
 {
-    let allowed = check_run(state, k, Recording::TICKS);
-    let answer = allowed.answer;
-    let ticks = allowed.ticks;
-    let period = allowed.period;
-    let table = state.table;
-    let mut progress = state.progress;
-    let mut queue = state.queue;
-    let mut returns = state.returns;
-    let mut entries = [Entry {
-        kind: 0,
-        id: 0,
-        drops: 0,
-    }; Recording::TICKS];
-    let mut calm: u32 = 0;
-    let mut given: u32 = 0;
-    let mut i: usize = 0;
-    while i < ticks {
-        let d = record_tick(table, progress, queue, returns, period, calm, given);
-        let entry = d.entry;
-        let next = d.progress;
-        entries[i] = entry;
-        progress = next;
-        calm = d.calm;
-        i += 1;
-        if d.leaves {
-            queue = leave(queue, given);
-            given = 0;
-        } else {
-            given = d.given;
-        }
-        if d.moves {
-            returns = returns.advance(period, d.t, d.holds);
-        }
-    }
-    let at = settle(table, progress, queue, returns, given);
-    Recording {
-        answer,
-        entries,
-        state: at,
+    know_sizes(state);
+    check_run(state, k, entries.len())?;
+    run_ticks(state, &mut entries[..k as usize]);
+    Ok(())
+}
+
+// A tick for each entry.
+fn run_ticks(state: &mut State, entries: &mut [Entry])
+    requires known { Known state.old true 0 }
+    requires clock { state.old.progress.clock + length entries.old ≤ last_clock }
+    ensures next { state.new ≡ run_state (length entries.old) state.old }
+    ensures record { entries.new ≡ run_entries (length entries.old) state.old }
+{
+    let mut calm = 0;
+    for entry in entries.iter_mut() {
+        *entry = advance(state, &mut calm).entry();
     }
 }
 
-// The run call: k ticks, the record of each in the lent list, or refusal 11, 6 or 10. Fitness is looked at once, the tasks only
-// where the calm ends, the queue is written only where its head leaves, and kind 4's returns only where they change.
-pub fn run(state: State, k: u32, entries: &mut [Entry]) -> Moved
-    ensures { (result ≡ run_call state k (length entries.old)) × (entries.new ≡ run_list state k entries.old) × (figures result.answer ≡ run_figures state k (length entries.old)) }
+// Refusals 11, 6 and 10, in this order, of a run of k ticks with so many entries lent.
+fn check_run(state: &State, k: u32, lent: usize) -> Result<(), Refusal>
+    ensures { result ≡ run_check state.now k lent }
 {
-    let lent = entries.len();
-    let allowed = check_run(state, k, lent);
-    let table = state.table;
-    let mut progress = state.progress;
-    let mut queue = state.queue;
-    let mut returns = state.returns;
-    let mut calm: u32 = 0;
-    let mut given: u32 = 0;
-    let mut i: usize = 0;
-    while i < allowed.ticks {
-        let d = record_tick(table, progress, queue, returns, allowed.period, calm, given);
-        entries[i] = d.entry;
-        progress = d.progress;
-        calm = d.calm;
-        i += 1;
-        if d.moves {
-            returns = returns.advance(allowed.period, d.t, d.holds);
-        }
-        if d.leaves {
-            queue = leave(queue, given);
-            given = 0;
-        } else {
-            given = d.given;
-        }
+    if !state.fit() {
+        return Err(Refusal::UnfitState);
     }
-    let at = settle(table, progress, queue, returns, given);
-    Moved {
-        answer: allowed.answer,
-        state: at,
+    if u64::from(Table::LAST_CLOCK) < u64::from(state.progress.clock) + u64::from(k) {
+        return Err(Refusal::ClockSpent);
     }
+    if lent < k as usize {
+        return Err(Refusal::ShortRecord);
+    }
+    Ok(())
+}
+
+// For the proofs: the arrays have the lengths of their types. Of another crate's struct behind a reference they do not know it till an
+// array is lent.
+fn know_sizes(state: &State)
+    ensures { Sized state.now }
+{
+    know_lengths(
+        &state.table.tasks,
+        &state.progress.left,
+        &state.queue.requests,
+        &state.returns.stretches,
+    );
+}
+
+fn know_lengths(
+    tasks: &[Task; Table::MAX_TASKS as usize],
+    left: &[u32; Table::MAX_TASKS as usize],
+    requests: &[Request; Queue::CAPACITY as usize],
+    stretches: &[Stretch; Returns::CAPACITY as usize],
+)
+    ensures tasks { length tasks.now ≡ max_tasks }
+    ensures left { length left.now ≡ max_tasks }
+    ensures requests { length requests.now ≡ max_waiting }
+    ensures stretches { length stretches.now ≡ max_held }
+{
+    // no code: the types say it
 }

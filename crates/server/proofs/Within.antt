@@ -3,7 +3,7 @@ use Rattle.std.specs.Prelude.{ℕ, ◌+◌, ◌≤◌, ◌≡◌, Bool, not, ◌
 use Rattle.std.proofs.Common.{arith, le-leb}
 use Rattle.lists.specs.Tests.{either}
 use Rattle.lists.specs.Time.{due}
-use Rattle.server.specs.Limits.{max_time, last_clock, last_nr}
+use Rattle.server.specs.Limits.{max_time, last_clock}
 use Rattle.server.specs.declared.Server.{Server}
 use Rattle.server.specs.declared.Sporadic.{Sporadic}
 use Rattle.server.specs.declared.ServerState.{ServerState}

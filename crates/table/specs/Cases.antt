@@ -1,5 +1,5 @@
 -- Cases of the limits, each at its edge: refusals 1, 2, 3 and 11, in their order.
-use Rattle.std.specs.Prelude.{ℕ, ◌≡◌, refl, true, false, List, [], ◌∷◌, map, replicate}
+use Rattle.std.specs.Prelude.{ℕ, ◌≡◌, refl, true, false, List, [], ◌∷◌, map, replicate, Result, Ok}
 use Rattle.lists.specs.Lists.{overlay}
 use Rattle.server.specs.Returns.{fresh_returns}
 use Rattle.server.specs.Whole.{whole}
@@ -11,7 +11,6 @@ use Rattle.queue.specs.Cases.{filled}
 use Rattle.table.specs.declared.Task.{Task}
 use Rattle.table.specs.declared.Table.{Table}
 use Rattle.table.specs.declared.State.{State}
-use Rattle.table.specs.declared.Checked.{Checked}
 use Rattle.table.specs.declared.Refusal.{Refusal}
 use Rattle.table.specs.Limits.{max_tasks, task_fits}
 use Rattle.table.specs.Refusal.{number, value, number_of, value_of}
@@ -32,7 +31,7 @@ abbrev table : List Task → ℕ → Server → Table
 table xs n s = record { tasks = overlay xs (replicate max_tasks (task 0 0 0 0)); n = n; server = s }
 
 -- a refusal's number and value, 0 and 0 for a table that passes
-abbrev says : Checked → ℕ × ℕ
+abbrev says : {A : Type 0} → Result A Refusal → ℕ × ℕ
 says c = (number_of c, value_of c)
 
 abbrev good : Task
@@ -97,9 +96,9 @@ pub record LimitCases : Type 0 where
       map value (Refusal.TaskCount ∷ Refusal.BadTask 5 ∷ Refusal.BadServer ∷ Refusal.BadWork ∷ Refusal.QueueFull ∷ Refusal.ClockSpent ∷ Refusal.ShortRecord ∷ Refusal.UnfitState ∷ []) ≡
       0 ∷ 5 ∷ 0 ∷ 0 ∷ 0 ∷ 0 ∷ 0 ∷ 0 ∷ []
   -- set-up: the fresh state with the answer; a refused table's state is unfit
-  pub set_up-passes : says (set_up_call (table (good ∷ []) 1 fine)).answer ≡ (0, 0)
+  pub set_up-passes : says (set_up_call (table (good ∷ []) 1 fine)) ≡ (0, 0)
   pub set_up-fresh :
-      (set_up_call (table (good ∷ []) 1 fine)).state ≡
+      set_up_call (table (good ∷ []) 1 fine) ≡ Ok (
       record {
         table = table (good ∷ []) 1 fine;
         progress = record {
@@ -109,8 +108,8 @@ pub record LimitCases : Type 0 where
         };
         queue = fresh_queue;
         returns = fresh_returns;
-      }
-  pub set_up_refuses : says (set_up_call (table (good ∷ bad ∷ []) 2 fine)).answer ≡ (2, 1)
+      })
+  pub set_up_refuses : says (set_up_call (table (good ∷ bad ∷ []) 2 fine)) ≡ (2, 1)
   pub fresh-fits : fit (fresh_state (table (good ∷ []) 1 fine)) ≡ true
   pub refused-unfit : fit (fresh_state (table (good ∷ bad ∷ []) 2 fine)) ≡ false
   -- refusal 11: at each limit, and one past it

@@ -1,5 +1,5 @@
 -- The limits as facts that `omega` reads: of a task, of a server, of a table that passes, and of a fit state.
-use Rattle.std.specs.Prelude.{ℕ, zero, suc, ◌≤◌, ◌<◌, ◌≡◌, refl, Bool, true, false, cond, not, ◌&&◌, List, [], ◌∷◌, length, take, get_or, leb, ltb}
+use Rattle.std.specs.Prelude.{ℕ, zero, suc, ◌≤◌, ◌<◌, ◌≡◌, refl, Bool, true, false, cond, not, ◌&&◌, List, [], ◌∷◌, length, take, get_or, leb, ltb, Err, Ok, Result}
 use Rattle.std.proofs.Common.{arith, sym, ap, ◌∙◌, leb-true, eqb-true, eq-eqb, ltb-false, le-leb, length-take, take_all}
 use Rattle.lists.specs.Lists.{all, all_with}
 use Rattle.lists.specs.Tests.{Every, between, every, every-facts, and_split, and_join, never}
@@ -15,7 +15,6 @@ use Rattle.table.specs.declared.Task.{Task}
 use Rattle.table.specs.declared.Table.{Table}
 use Rattle.table.specs.declared.State.{State}
 use Rattle.table.specs.declared.Refusal.{Refusal}
-use Rattle.table.specs.declared.Checked.{Checked}
 use Rattle.table.specs.Limits.{max_tasks, last_kind, task_tests, task_fits, first_bad, server_tests, background_tests, budget_tests, server_fits, check_server, check_tasks}
 use Rattle.table.specs.Refusal.{passed, figures, ground_with, ground, no_ground}
 use Rattle.table.specs.State.{table_check, table_figures, left_fits, sporadic_fits, server_state_fits, model_fits, state_returns_fit, fit}
@@ -87,18 +86,18 @@ none-bad (x ∷ xs) h = by (task_fits x) h (none-bad xs)
     by false h rest = absurd (omega arith)
 
 -- a check that passes took the way on at a test
-went_on : (b : Bool) (later : Checked) (r : Refusal) → passed (cond b later (Checked.Refused r)) ≡ true →
+went_on : (b : Bool) (later : Result Unit Refusal) (r : Refusal) → passed (cond b later (Err r)) ≡ true →
     (b ≡ true) × (passed later ≡ true)
 went_on true later r e = (refl, e)
 went_on false later r e = never refl e
 
-went_past : (b : Bool) (later : Checked) (r : Refusal) → passed (cond b (Checked.Refused r) later) ≡ true →
+went_past : (b : Bool) (later : Result Unit Refusal) (r : Refusal) → passed (cond b (Err r) later) ≡ true →
     (b ≡ false) × (passed later ≡ true)
 went_past true later r e = never refl e
 went_past false later r e = (refl, e)
 
 -- the answer of the check, in hand
-pub check_passes : (t : Table) (a : Checked) → a ≡ table_check t → a ≡ Checked.Passed → passed (table_check t) ≡ true
+pub check_passes : (t : Table) (a : Result Unit Refusal) → a ≡ table_check t → a ≡ Ok tt → passed (table_check t) ≡ true
 check_passes t a e f = rw (sym e ∙ f)
 
 pub table-facts : (t : Table) → passed (table_check t) ≡ true → TableFacts t
@@ -107,7 +106,7 @@ table-facts t e =
     let first = went_on (between 1 max_tasks t.n) (check_tasks xs t.server t.n) Refusal.TaskCount e in
     let count = and_split (leb 1 t.n) (leb t.n max_tasks) first.0 in
     let second = went_past (ltb (first_bad xs) (length xs)) (check_server t.server t.n) (Refusal.BadTask (first_bad xs)) first.1 in
-    let third = went_on (server_fits t.server t.n) Checked.Passed Refusal.BadServer second.1 in
+    let third = went_on (server_fits t.server t.n) (Ok tt) Refusal.BadServer second.1 in
     record {
       some = leb-true _ _ count.0;
       count = leb-true _ _ count.1;
@@ -132,7 +131,7 @@ check_figures t =
     by (between 1 max_tasks t.n) (ltb (first_bad xs) (length xs)) (server_fits t.server t.n) (first_bad xs)
   where
     by : (count bad server : Bool) (i : ℕ) →
-        figures (cond count (cond bad (Checked.Refused (Refusal.BadTask i)) (cond server Checked.Passed (Checked.Refused Refusal.BadServer))) (Checked.Refused Refusal.TaskCount)) ≡
+        figures {A = Unit {0}} (cond count (cond bad (Err (Refusal.BadTask i)) (cond server (Ok tt) (Err Refusal.BadServer))) (Err Refusal.TaskCount)) ≡
         ground (not count) 1 (ground_with bad 2 i (ground (not server) 3 no_ground))
     by false bad server i = refl
     by true true server i = refl
@@ -140,7 +139,7 @@ check_figures t =
     by true false false i = refl
 
 -- an answer that is the check's says its figures
-pub checked : (t : Table) (a : Checked) → a ≡ table_check t → (a ≡ table_check t) × (figures a ≡ table_figures t)
+pub checked : (t : Table) (a : Result Unit Refusal) → a ≡ table_check t → (a ≡ table_check t) × (figures a ≡ table_figures t)
 checked t a e = (e, ap figures e ∙ check_figures t)
 
 -- ---- a fit state

@@ -1,12 +1,11 @@
 -- The limits of a table: refusals 1, 2 and 3, over the tasks in use.
-use Rattle.std.specs.Prelude.{ℕ, suc, Bool, cond, ◌&&◌, List, [], ◌∷◌, length, leb, ltb, eqb}
+use Rattle.std.specs.Prelude.{ℕ, suc, Bool, cond, ◌&&◌, List, [], ◌∷◌, length, leb, ltb, eqb, Err, Ok, Result}
 use Rattle.lists.specs.Tests.{between, every}
 use Rattle.server.specs.Limits.{max_time}
 use Rattle.server.specs.declared.Server.{Server}
 use Rattle.server.specs.Kind.{Kind, background, polling, deferrable, sporadic, returning, kind_of}
 use Rattle.table.specs.declared.Task.{Task}
 use Rattle.table.specs.declared.Refusal.{Refusal}
-use Rattle.table.specs.declared.Checked.{Checked}
 
 -- "There are n rows, 1 to 16, numbered from 0, highest priority first."
 abbrev pub max_tasks : ℕ
@@ -51,12 +50,12 @@ abbrev pub server_fits : Server → ℕ → Bool
 server_fits s n = leb s.kind last_kind && every (server_tests (kind_of s.kind) s n)
 
 -- Refusals "1 row count: no row, or more than 16", "2 bad row: .. the first such index comes with it", "3 bad server", in this order.
-abbrev pub check_server : Server → ℕ → Checked
-check_server s n = cond (server_fits s n) Checked.Passed (Checked.Refused Refusal.BadServer)
+abbrev pub check_server : Server → ℕ → Result Unit Refusal
+check_server s n = cond (server_fits s n) (Ok tt) (Err Refusal.BadServer)
 
-abbrev pub check_tasks : List Task → Server → ℕ → Checked
+abbrev pub check_tasks : List Task → Server → ℕ → Result Unit Refusal
 check_tasks xs s n =
-    cond (ltb (first_bad xs) (length xs)) (Checked.Refused (Refusal.BadTask (first_bad xs))) (check_server s n)
+    cond (ltb (first_bad xs) (length xs)) (Err (Refusal.BadTask (first_bad xs))) (check_server s n)
 
-abbrev pub check_table : List Task → Server → ℕ → Checked
-check_table xs s n = cond (between 1 max_tasks n) (check_tasks xs s n) (Checked.Refused Refusal.TaskCount)
+abbrev pub check_table : List Task → Server → ℕ → Result Unit Refusal
+check_table xs s n = cond (between 1 max_tasks n) (check_tasks xs s n) (Err Refusal.TaskCount)

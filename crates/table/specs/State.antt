@@ -1,5 +1,5 @@
 -- The fresh state, the fit state (refusal 11) and set-up.
-use Rattle.std.specs.Prelude.{ℕ, Bool, not, ◌&&◌, length, replicate, leb, ltb}
+use Rattle.std.specs.Prelude.{ℕ, Bool, not, ◌&&◌, length, replicate, leb, ltb, Result}
 use Rattle.lists.specs.Lists.{all_with}
 use Rattle.lists.specs.Tests.{between}
 use Rattle.server.specs.Limits.{last_clock, last_nr}
@@ -12,13 +12,12 @@ use Rattle.server.specs.Returns.{fresh_returns}
 use Rattle.server.specs.Whole.{whole_fits}
 use Rattle.queue.specs.Queue.{max_waiting, fresh_queue, requests_fit}
 use Rattle.queue.specs.Steps.{backlog_fits}
+use Rattle.table.specs.declared.Refusal.{Refusal}
 use Rattle.table.specs.declared.Task.{Task}
 use Rattle.table.specs.declared.Table.{Table}
 use Rattle.table.specs.declared.State.{State}
-use Rattle.table.specs.declared.Checked.{Checked}
-use Rattle.table.specs.declared.SetUp.{SetUp}
 use Rattle.table.specs.Limits.{max_tasks, first_bad, server_fits, check_table}
-use Rattle.table.specs.Refusal.{passed, Figures, ground_with, ground, no_ground}
+use Rattle.table.specs.Refusal.{passed, giving, Figures, ground_with, ground, no_ground}
 use Rattle.table.specs.Model.{TaskSet, Model, task_set_of, model_of}
 
 -- "A fresh state .. its clock, times and marks are 0, and nothing is open or waiting."
@@ -31,7 +30,7 @@ fresh_state t = record {
 }
 
 -- refusals 1, 2 and 3 of a table
-abbrev pub table_check : Table → Checked
+abbrev pub table_check : Table → Result Unit Refusal
 table_check t = check_table (task_set_of t).tasks t.server t.n
 
 -- the same in figures: 1 if there is no row or more than 16; else 2, with the first such index, if a row breaks its limits; else 3 if the
@@ -72,6 +71,6 @@ fit s =
     passed (table_check s.table) && leb s.queue.n max_waiting && state_returns_fit s
     && model_fits (task_set_of s.table) (model_of s)
 
--- Set-up checks 1, 2, 3. Its state is the table's fresh state; that of a refused table is unfit.
-abbrev pub set_up_call : Table → SetUp
-set_up_call t = record { answer = table_check t; state = fresh_state t }
+-- Set-up checks 1, 2, 3, and gives the fresh state of a table that passes.
+abbrev pub set_up_call : Table → Result State Refusal
+set_up_call t = giving (table_check t) (fresh_state t)

@@ -1,21 +1,24 @@
 // The table of tasks with its server, its limits, and the state that the calls move.
 #![tactic(auto)]
 
-ghost use Rattle.std.specs.Prelude.{◌≡◌, ◌≤◌, take, true};
-ghost use Rattle.lists.specs.Lists.{all_with};
+ghost use Rattle.std.specs.Prelude.{◌≡◌, ◌&&◌, leb, not, position, Some};
+ghost use Rattle.std.specs.List.{zip, list_all};
 ghost use Rattle.lists.specs.Tests.{every};
-ghost use Rattle.table.specs.Limits.{max_tasks, task_fits, first_bad, budget_tests, background_tests, server_fits};
-ghost use Rattle.server.specs.Kind.{kind_of};
-ghost use Rattle.server.specs.Whole.{whole_fits};
-ghost use Rattle.table.specs.Refusal.{number, passed, figures};
-ghost use Rattle.table.specs.State.{fresh_state, table_check, table_figures, left_fits, server_state_fits, fit, set_up_call};
+ghost use Rattle.queue.specs.Queue.{max_waiting};
+ghost use Rattle.table.specs.Limits.{task_fits, budget_tests, background_tests, server_fits};
+ghost use Rattle.table.specs.Model.{task_set_of, model_of};
+ghost use Rattle.table.specs.Refusal.{number, figures};
+ghost use Rattle.table.specs.Words.{word};
+ghost use Rattle.table.specs.State.{fresh_state, table_check, table_figures, left_fits, server_state_fits, state_returns_fit, model_fits, fit, set_up_call};
 
 use queue::Queue;
 use server::{Returns, Server, ServerState};
+use std::error::Error;
+use std::fmt;
 
 // A periodic task (document 01's row): phase f, period p, execution e, deadline D, in ticks.
 #[repr(C)]
-#[derive(Clone, Copy)]
+#[derive(Debug, Clone, Copy, PartialEq, Eq, Default)]
 pub struct Task {
     pub phase: u32,
     pub period: u32,
@@ -28,23 +31,27 @@ impl Task {
     fn fits(self) -> bool
         ensures { result ≡ task_fits self }
     {
-        let times = (self.period <= Table::MAX_TIME) & (self.phase <= Table::MAX_TIME);
-        (1 <= self.exec) & ((self.exec <= self.deadline) & ((self.deadline <= self.period) & times))
+        1 <= self.exec
+            && self.exec <= self.deadline
+            && self.deadline <= self.period
+            && self.period <= Table::MAX_TIME
+            && self.phase <= Table::MAX_TIME
     }
 }
 
-// The first n tasks are in use, highest priority first.
+// The first n tasks are in use, highest priority first: C has the same layout, so the count stands beside the slots, and `tasks` answers those in use.
 #[repr(C)]
-#[derive(Clone, Copy)]
+#[derive(Debug, Clone, Copy, PartialEq, Eq, Default)]
 pub struct Table {
     pub tasks: [Task; Table::MAX_TASKS as usize],
     pub n: u32,
     pub server: Server,
 }
 
-// What every tick changes: the execution left of each task's job, the server's state and the clock.
+// What every tick changes: the execution left of each task's job, the server's state and the clock. `left` is an array beside the tasks: C has this
+// layout, and the table never changes.
 #[repr(C)]
-#[derive(Clone, Copy)]
+#[derive(Debug, Clone, Copy, PartialEq, Eq)]
 pub struct Progress {
     pub left: [u32; Table::MAX_TASKS as usize],
     pub server: ServerState,
@@ -54,7 +61,7 @@ pub struct Progress {
 // The state is split by what changes: the table never, the progress in every tick, the queue when a request comes or is served, the
 // returns under kind 4 alone.
 #[repr(C)]
-#[derive(Clone, Copy)]
+#[derive(Debug, Clone, Copy, PartialEq, Eq)]
 pub struct State {
     pub table: Table,
     pub progress: Progress,
@@ -63,7 +70,7 @@ pub struct State {
 }
 
 // Why a call refuses, by document 01's words.
-#[derive(Clone, Copy)]
+#[derive(Debug, Clone, Copy, PartialEq, Eq)]
 pub enum Refusal {
     TaskCount,
     // The first task that breaks its limits.
@@ -94,19 +101,25 @@ impl Refusal {
     }
 }
 
-// The answer of a call that only passes or refuses.
-#[derive(Clone, Copy)]
-pub enum Checked {
-    Passed,
-    Refused(Refusal),
+// The word of a refusal, as the table of refusals has it; the index of a bad row comes with it.
+impl fmt::Display for Refusal {
+    ghost output = { λ refusal. Some (word refusal) };
+
+    fn fmt<W: fmt::Write>(&self, f: &mut fmt::Formatter<W>) -> fmt::Result {
+        match self {
+            Refusal::TaskCount => f.write_str("row count"),
+            Refusal::BadTask(i) => write!(f, "bad row {i}"),
+            Refusal::BadServer => f.write_str("bad server"),
+            Refusal::BadWork => f.write_str("bad work"),
+            Refusal::QueueFull => f.write_str("queue full"),
+            Refusal::ClockSpent => f.write_str("clock spent"),
+            Refusal::ShortRecord => f.write_str("short record"),
+            Refusal::UnfitState => f.write_str("unfit state"),
+        }
+    }
 }
 
-// The answer of set-up: a refused table's state is unfit, so that every later call on it refuses.
-#[derive(Clone, Copy)]
-pub struct SetUp {
-    pub answer: Checked,
-    pub state: State,
-}
+impl Error for Refusal {}
 
 impl Table {
     pub const MAX_TASKS: u32 = 16;
@@ -121,16 +134,23 @@ impl Table {
     // The highest next replenishment of a sporadic server.
     pub const LAST_NR: u32 = 4000060000;
 
-    // The fresh state of a table: the clock at 0, nothing open, nothing waiting.
-    pub fn fresh(self) -> State
-        ensures { result ≡ fresh_state self }
+    // The tasks in use; of a count past the slots, all slots. `Queue::waiting` and `Returns::held` are its like: each over its own slots, with its
+    // own contract. A trait for the three is no plainer, nor one generic struct of slots and count: definitions and C name these fields.
+    pub fn tasks(&self) -> &[Task]
+        ensures { result.now ≡ (task_set_of self.now).tasks }
     {
-        let server = self.server;
+        &self.tasks[..self.n.min(Table::MAX_TASKS) as usize]
+    }
+
+    // The fresh state of a table: the clock at 0, nothing open, nothing waiting.
+    pub fn fresh(&self) -> State
+        ensures { result ≡ fresh_state self.now }
+    {
         State {
-            table: self,
+            table: *self,
             progress: Progress {
                 left: [0; Table::MAX_TASKS as usize],
-                server: server.fresh(),
+                server: self.server.fresh(),
                 clock: 0,
             },
             queue: Queue::fresh(),
@@ -138,170 +158,122 @@ impl Table {
         }
     }
 
-    // Refusals 1, 2 with the first bad index, and 3, in this order.
-    pub fn check(self) -> Checked
-        ensures { (result ≡ table_check self) × (figures result ≡ table_figures self) }
+    // "Kind 0: s = n, P = B = 0."
+    fn background_fits(&self) -> bool
+        ensures { result ≡ every (background_tests self.now.server self.now.n) }
     {
-        let n = self.n;
-        if n < 1 {
-            return Checked::Refused(Refusal::TaskCount);
-        }
-        if Table::MAX_TASKS < n {
-            return Checked::Refused(Refusal::TaskCount);
-        }
-        let tasks = self.tasks;
-        let bad = first_bad(tasks, n);
-        if bad < n {
-            return Checked::Refused(Refusal::BadTask(bad));
-        }
         let server = self.server;
-        if server_fits(server, n) {
-            return Checked::Passed;
-        }
-        Checked::Refused(Refusal::BadServer)
+        server.place == self.n && server.period == 0 && server.budget == 0
     }
 
-    // Set-up: the fresh state, and whether the table passes.
-    pub fn set_up(self) -> SetUp
-        ensures { (result ≡ set_up_call self) × (figures result.answer ≡ table_figures self) }
+    // "Kinds 1 to 3: s ≤ n, 1 ≤ B ≤ P ≤ 60,000." 3/13: kind 4 too.
+    fn budget_fits(&self) -> bool
+        ensures { result ≡ every (budget_tests self.now.server self.now.n) }
     {
-        SetUp {
-            answer: self.check(),
-            state: self.fresh(),
+        let server = self.server;
+        server.place <= self.n
+            && 1 <= server.budget
+            && server.budget <= server.period
+            && server.period <= Table::MAX_TIME
+    }
+
+    // The server's limits, by kind; there is no other kind.
+    fn server_fits(&self) -> bool
+        ensures { result ≡ server_fits self.now.server self.now.n }
+    {
+        match self.server.kind {
+            0 => self.background_fits(),
+            1..=4 => self.budget_fits(),
+            _ => false,
         }
     }
-}
 
-// The first of the n tasks in use that breaks its limits, or n.
-fn first_bad(tasks: [Task; Table::MAX_TASKS as usize], n: u32) -> u32
-    requires { n ≤ max_tasks }
-    ensures { result ≡ first_bad (take n tasks) }
-{
-    let mut i: u32 = 0;
-    while i < n {
-        let at = i as usize;
-        let task = tasks[at];
-        if task.fits() {
-            i += 1;
-        } else {
-            return i;
+    // Refusals 1, 2 with the first bad index, and 3, in this order.
+    #[tactic(auto, using(crate::proofs::Laws::bad_position))]
+    pub fn check(&self) -> Result<(), Refusal>
+        ensures answer { result ≡ table_check self.now }
+        ensures in_figures { figures result ≡ table_figures self.now }
+    {
+        if self.n < 1 || Table::MAX_TASKS < self.n {
+            return Err(Refusal::TaskCount);
         }
+        if let Some(i) = first_bad(self.tasks()) {
+            return Err(Refusal::BadTask(i as u32));
+        }
+        if !self.server_fits() {
+            return Err(Refusal::BadServer);
+        }
+        Ok(())
     }
-    n
-}
 
-// "Kind 0: s = n, P = B = 0."
-fn background_fits(server: Server, n: u32) -> bool
-    ensures { result ≡ every (background_tests server n) }
-{
-    (server.place == n) & ((server.period == 0) & (server.budget == 0))
-}
-
-// "Kinds 1 to 3: s ≤ n, 1 ≤ B ≤ P ≤ 60,000." 3/13: kind 4 too.
-fn budget_fits(server: Server, n: u32) -> bool
-    ensures { result ≡ every (budget_tests server n) }
-{
-    let period = (server.budget <= server.period) & (server.period <= Table::MAX_TIME);
-    (server.place <= n) & ((1 <= server.budget) & period)
-}
-
-// The server's limits, by kind; there is no other kind.
-fn server_fits(server: Server, n: u32) -> bool
-    ensures { result ≡ server_fits server n }
-{
-    let kind = server.kind;
-    match kind {
-        0 => background_fits(server, n),
-        1 => budget_fits(server, n),
-        2 => budget_fits(server, n),
-        3 => budget_fits(server, n),
-        4 => budget_fits(server, n),
-        _ => false,
+    // Set-up: the fresh state, of a table that passes.
+    pub fn set_up(&self) -> Result<State, Refusal>
+        ensures answer { result ≡ set_up_call self.now }
+        ensures in_figures { figures result ≡ table_figures self.now }
+    {
+        self.check()?;
+        Ok(self.fresh())
     }
+}
+
+// The index of the first task that breaks its limits.
+fn first_bad(tasks: &[Task]) -> Option<usize>
+    ensures { result ≡ position (λ x. not (task_fits x)) tasks.now }
+{
+    tasks.iter().position(|task| !task.fits())
 }
 
 impl State {
     // Refusal 11 is given where this is false.
-    pub fn fit(self) -> bool
-        ensures { result ≡ fit self }
+    pub fn fit(&self) -> bool
+        ensures { result ≡ fit self.now }
     {
-        let table = self.table;
-        let checked = table.check();
-        match checked {
-            Checked::Refused(_) => false,
-            Checked::Passed => self.fit_parts(),
-        }
+        self.table.check().is_ok() && self.parts_fit()
     }
 
-    // What a state of a table that passes has to keep besides.
-    fn fit_parts(self) -> bool
-        requires { passed (table_check self.table) ≡ true }
-        ensures { result ≡ fit self }
+    // What a state has to keep besides its table's limits.
+    #[tactic(auto, using(crate::proofs::Laws::lefts_of))]
+    fn parts_fit(&self) -> bool
+        ensures { result ≡ (leb self.now.queue.n max_waiting && state_returns_fit self.now && model_fits (task_set_of self.now.table) (model_of self.now)) }
     {
-        let table = self.table;
-        let progress = self.progress;
-        let queue = self.queue;
-        let clock = progress.clock;
-        if Table::LAST_CLOCK < clock {
-            return false;
+        self.progress.clock <= Table::LAST_CLOCK
+            && self.server_state_fits()
+            && self.queue.fits(self.progress.clock)
+            && self.returns_fit()
+            && lefts_fit(self.table.tasks(), &self.progress.left)
+    }
+
+    // No "b above B", no "tr or begin after the clock, or nr above 4,000,060,000".
+    fn server_state_fits(&self) -> bool
+        ensures { result ≡ server_state_fits self.now.table.server self.now.progress.clock self.now.progress.server }
+    {
+        let x = self.progress.server.sporadic;
+        self.progress.server.budget <= self.table.server.budget
+            && x.tr <= self.progress.clock
+            && x.begin <= self.progress.clock
+            && x.nr <= Table::LAST_NR
+    }
+
+    // Kind 4's further limits; of the other kinds nothing is asked.
+    fn returns_fit(&self) -> bool
+        ensures { result ≡ state_returns_fit self.now }
+    {
+        let server = self.table.server;
+        let clock = self.progress.clock;
+        let budget = self.progress.server.budget;
+        match server.kind {
+            4 => self.returns.fits(server, clock, budget),
+            _ => true,
         }
-        let server = table.server;
-        let state = progress.server;
-        if !server_state_fits(server, clock, state) {
-            return false;
-        }
-        if !queue.fits(clock) {
-            return false;
-        }
-        let returns = self.returns;
-        if !returns_fit(server, clock, state, returns) {
-            return false;
-        }
-        let tasks = table.tasks;
-        let left = progress.left;
-        lefts_fit(tasks, left, table.n)
     }
 }
 
-// No "b above B", no "tr or begin after the clock, or nr above 4,000,060,000".
-fn server_state_fits(server: Server, clock: u32, state: ServerState) -> bool
-    ensures { result ≡ server_state_fits server clock state }
+// No "row's work above e".
+fn lefts_fit(tasks: &[Task], left: &[u32]) -> bool
+    ensures { result ≡ list_all (λ p. left_fits p.0 p.1) (zip tasks.now left.now) }
 {
-    let x = state.sporadic;
-    (state.budget <= server.budget)
-        & ((x.tr <= clock) & (x.begin <= clock) & (x.nr <= Table::LAST_NR))
-}
-
-// Kind 4's further limits; of the other kinds nothing is asked.
-fn returns_fit(server: Server, clock: u32, state: ServerState, returns: Returns) -> bool
-    ensures { result ≡ whole_fits (kind_of server.kind) server clock state.budget returns }
-{
-    let kind = server.kind;
-    match kind {
-        4 => returns.fits(server, clock, state.budget),
-        _ => true,
-    }
-}
-
-// No "row's work above e", of the n tasks in use.
-fn lefts_fit(
-    tasks: [Task; Table::MAX_TASKS as usize],
-    left: [u32; Table::MAX_TASKS as usize],
-    n: u32,
-) -> bool
-    requires { n ≤ max_tasks }
-    ensures { result ≡ all_with left_fits (take n tasks) (take n left) }
-{
-    let end = n as usize;
-    let mut i: usize = 0;
-    while i < end {
-        let task = tasks[i];
-        let l = left[i];
-        if l <= task.exec {
-            i += 1;
-        } else {
-            return false;
-        }
-    }
-    true
+    tasks
+        .iter()
+        .zip(left)
+        .all(|(task, left)| *left <= task.exec)
 }

@@ -1,77 +1,68 @@
--- Laws of the number writer: a turn of the search for the width, and a turn of the writing.
-use Prim.Native.Nat.{ℕ, suc, ◌+◌, ◌-◌, ◌*◌, ◌/◌, ◌%◌, ◌^◌, ◌≤◌, ◌<◌}
-use mathlib.Core.Path.{◌≡◌, refl, sym, ap, ◌∙◌}
-use mathlib.Core.List.{List, [], ◌∷◌}
-use mathlib.Core.Bool.{true, false}
-use native.Mathlib.Omega.{arith}
-use native.Mathlib.Nat.{pow-suc, pow-le-pow_right, zero-lt-suc}
-use native.Mathlib.Numerals.{add-one}
-use lib.ListN.{set}
-use lib.Seq.{sets, set_comm}
-use lib.Dec.{ltb}
-use Rattle.text.specs.Decimal.{max_digits, width_from, width_of, digits_of, decimal}
-use Rattle.text.specs.Buffer.{Wrote}
-use Rattle.text.specs.ReadBack.{length_digits}
+-- Laws of the number writer: a turn of the writing, and its end.
+use Prim.Native.Nat.{ℕ, suc, ◌+◌, ◌*◌, ◌/◌, ◌%◌, ◌^◌, ◌≤◌, ◌<◌}
+use Rattle.std.specs.Prelude.{◌≡◌, Bool, true, false, List, [], ◌∷◌, ◌++◌, length, ltb}
+use Rattle.std.proofs.Math.Path.{refl, ap}
+use Rattle.std.proofs.Common.{sym, ◌∙◌, arith, length-append, pow-suc, ltb-true, ltb-false}
+use native.Mathlib.Nat.{pow-le-pow_right, zero-lt-suc}
+use Rattle.text.specs.declared.Part.{Part}
+use Rattle.text.specs.Decimal.{max_digits, digits_of, decimal}
+use Rattle.text.specs.Lines.{part_bytes}
+use Rattle.text.specs.ReadBack.{ten_pos, length_digits, width_is}
 
-module _ (x : ℕ) where
-  pub width-here : (k w : ℕ) → ltb x (10 ^ w) ≡ true → width_from (suc k) w x ≡ w
-  unfolding width_from
-  width-here k w h = simp h
+-- the last digits of x, of the powers of ten below p, stand in front of l
+pub record Digits (x p : ℕ) (l m : List ℕ) : Type 0 where
+  pub count : ℕ
+  pub power : p ≡ 10 ^ count
+  pub needed : 0 < count → p ≤ x
+  pub text : m ≡ digits_of count x ++ l
 
-  pub width-next : (k w : ℕ) → ltb x (10 ^ w) ≡ false → width_from (suc k) w x ≡ width_from k (w + 1) x
-  unfolding width_from
-  width-next k w h = simp h
-
-  pub width-last : (w : ℕ) → width_from 0 w x ≡ w
-  unfolding width_from
-  width-last w = refl
-
--- a turn of the search for the width
-module _ (x w : ℕ) (h : w < max_digits) where
-  left_suc : max_digits - w ≡ suc (max_digits - 1 - w)
-  left_suc = omega arith
-
-  pub width-found : ltb x (10 ^ w) ≡ true → width_from (max_digits - w) w x ≡ w
-  width-found e = ap (λ (k : ℕ). width_from k w x) left_suc ∙ width-here x (max_digits - 1 - w) w e
-
-  pub width-on : ltb x (10 ^ w) ≡ false → width_from (max_digits - w) w x ≡ width_from (max_digits - (w + 1)) (w + 1) x
-  width-on e =
-      let k : max_digits - 1 - w ≡ max_digits - (w + 1) = omega arith in
-      ap (λ (k : ℕ). width_from k w x) left_suc ∙ width-next x (max_digits - 1 - w) w e ∙ ap (λ (k : ℕ). width_from k (w + 1) x) k
-
--- ---- powers of ten. 02: "works each power out by repeated multiplication": ten times a digit's power is the next digit's
-pub power_next : (p i : ℕ) → p ≡ 10 ^ i → p * 10 ≡ 10 ^ (i + 1)
-power_next p i e = ap (λ (n : ℕ). n * 10) e ∙ sym (pow-suc 10 i) ∙ ap (λ (n : ℕ). 10 ^ n) (sym (add-one i))
-
--- the powers of all digits are numbers of 32 bits
-pub power_fits : (p i : ℕ) → p ≡ 10 ^ i → i + 1 < max_digits → p * 10 < 2 ^ 32
-power_fits p i e h =
-    let k : i + 1 ≤ max_digits - 1 = omega arith in
-    let most : 10 ^ (i + 1) ≤ 10 ^ (max_digits - 1) = pow-le-pow_right (zero-lt-suc 9) k in
-    omega (arith, power_next p i e)
-
--- ---- the digits, last one first
--- a store before a run of stores is as good as one made first
-set_before : (vs l : List ℕ) (i j a : ℕ) → j < i → set (sets l i vs) j a ≡ sets (set l j a) i vs
-set_before [] l i j a h = refl
-set_before (v ∷ vs) l i j a h =
-    set_before vs (set l i v) (suc i) j a (omega arith) ∙ ap (λ (k : List ℕ). sets k (suc i) vs) (set_comm l i j v a (λ e. omega arith))
-
--- a turn of the number writer: with its power the digit before the last i is written
-pub digit-before :
-    (l out : List ℕ) (at w last i x p : ℕ) → last + 1 ≡ at + w → i < w → p ≡ 10 ^ i → out ≡ sets l (at + (w - i)) (digits_of i x)
-    → set out (last - i) (48 + x / p % 10) ≡ sets l (at + (w - (i + 1))) (digits_of (i + 1) x)
+pub none : (x : ℕ) (l : List ℕ) → Digits x 1 l l
 unfolding digits_of
-digit-before l out at w last i x p e h q d =
-    let a : last - i ≡ at + (w - (i + 1)) = omega arith in
-    let b : at + (w - i) ≡ suc (at + (w - (i + 1))) = omega arith in
-    rw (d, q, a, b, add-one i) (set_before (digits_of i x) l _ _ _ (omega arith))
+none x l = record { count = 0; power = refl; needed = λ h. absurd (omega arith); text = refl }
 
--- all digits stand in their places
-pub wrote-number : (l out : List ℕ) (at w i x : ℕ) → w ≡ width_of x → i ≡ w → out ≡ sets l (at + (w - i)) (digits_of i x) → Wrote l at (decimal x) out (at + w)
-unfolding decimal
-wrote-number l out at w i x e h d =
-    let a : at + (w - i) ≡ at = omega arith in record {
-      bytes = d ∙ rw (a, h, e) refl;
-      next = omega (arith, length_digits (width_of x) x);
-    }
+module _ {x p : ℕ} {l m : List ℕ} (d : Digits x p l m) where
+  pub power_some : 0 < p
+  power_some = omega (arith, ten_pos d.count, d.power)
+
+  pub count_few : x < 2 ^ 32 → d.count < max_digits
+  count_few h = by (ltb d.count max_digits) refl
+    where
+      by : (b : Bool) → ltb d.count max_digits ≡ b → d.count < max_digits
+      by true e = ltb-true d.count max_digits e
+      by false e =
+          let many : max_digits ≤ d.count = ltb-false d.count max_digits e in
+          let up : 10 ^ max_digits ≤ 10 ^ d.count = pow-le-pow_right (zero-lt-suc 9) many in
+          absurd (omega (arith, d.needed (omega arith), d.power))
+
+  pub so_far : length m ≡ d.count + length l
+  so_far = omega (arith, ap length d.text, length-append (digits_of d.count x) l, length_digits d.count x)
+
+  -- the digit of the power p, in front
+  digit : (48 + x / p % 10) ∷ m ≡ digits_of (suc d.count) x ++ l
+  unfolding digits_of
+  digit = rw (d.text, d.power) refl
+
+  pub one_more : p ≤ x / 10 → Digits x (p * 10) l ((48 + x / p % 10) ∷ m)
+  one_more h = record {
+    count = suc d.count;
+    power = ap (λ (n : ℕ). n * 10) d.power ∙ sym (pow-suc 10 d.count);
+    needed = λ some. omega arith;
+    text = digit;
+  }
+
+  pub all : x / 10 < p → x < 2 ^ 32 → (48 + x / p % 10) ∷ m ≡ decimal x ++ l
+  unfolding decimal
+  all h fits =
+      let top : x < 10 ^ suc d.count = omega (arith, d.power, pow-suc 10 d.count) in
+      let low : 0 < d.count → 10 ^ d.count ≤ x = λ some. omega (arith, d.needed some, d.power) in
+      digit ∙ ap (λ (w : ℕ). digits_of w x ++ l) (sym (width_is x d.count (omega arith) top low))
+
+-- ---- parts, written from the last one on
+-- parts that are still to come, in front of what is written
+abbrev pub in_front : List Part → List ℕ → List ℕ
+in_front [] l = l
+in_front (p ∷ ps) l = part_bytes p ++ in_front ps l
+
+pub in_front_last : (ps : List Part) (p : Part) (l : List ℕ) → in_front (ps ++ p ∷ []) l ≡ in_front ps (part_bytes p ++ l)
+in_front_last [] p l = refl
+in_front_last (q ∷ ps) p l = ap (λ (m : List ℕ). part_bytes q ++ m) (in_front_last ps p l)

@@ -1,4 +1,4 @@
--- Bytes written into a lent buffer from a place on.
+-- Bytes written into a buffer from a place on: words for laws of pieces. No function of the library writes so.
 use Rattle.std.specs.Prelude.{ℕ, suc, ◌+◌, ◌≤◌, ◌<◌, ◌≡◌, refl, cond, List, [], ◌∷◌, ◌++◌, length, take, drop, set, leb}
 use Rattle.std.proofs.Common.{sym, ap, ◌∙◌, subst, arith, le-leb, length-append, length-take, take_at, drop_at}
 use Rattle.std.proofs.lemmas.Bool.{lt-leb}

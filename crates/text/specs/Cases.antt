@@ -28,7 +28,7 @@ unfolding rules
 firsts = refl
 
 -- X,3,A,7,0
-a-line : line_bytes (record { letter = 88; first = Part.Number 3; second = Part.Letter 65; third = Part.Number 7; fourth = Part.Number 0; fifth = Part.Nothing }) ≡
+a_line : line_bytes (record { letter = 88; parts = Part.Number 3 ∷ Part.Letter 65 ∷ Part.Number 7 ∷ Part.Number 0 ∷ [] }) ≡
     88 ∷ 44 ∷ 51 ∷ 44 ∷ 65 ∷ 44 ∷ 55 ∷ 44 ∷ 48 ∷ 10 ∷ []
 unfolding rules
-a-line = refl
+a_line = refl

@@ -1,5 +1,6 @@
 pub mod Decimal
-pub mod Buffer
 pub mod Lines
 pub mod ReadBack
+pub mod Printing
 pub mod Cases
+pub mod Buffer

@@ -4,6 +4,7 @@ use Prim.Native.Nat.{ℕ, zero, suc, ◌+◌, ◌-◌, ◌*◌, ◌/◌, ◌%◌
 use Rattle.std.specs.Prelude.{◌≡◌, Bool, true, false, cond, ltb}
 use Rattle.std.proofs.Math.Path.{refl, ap}
 use Rattle.std.proofs.Common.{sym, ◌∙◌, subst, arith, pow-suc, div-one, div-add-mod', mod-eq_of_lt, le-div_iff_mul-le, div-lt_iff_lt-mul, ltb-true, ltb-false, le-leb}
+use native.Mathlib.Nat.{pow-le-pow_right, zero-lt-suc}
 use Rattle.std.proofs.Math.Nat.{pow-zero, div-div-eq-div-mul, div-eq_of_lt}
 use Rattle.std.proofs.Math.ListN.{length, get_or}
 use Rattle.text.specs.Decimal.{max_digits, width_from, width_of, digits_of, decimal, digits, value_from}
@@ -74,6 +75,35 @@ width-found (suc k) w x = by (ltb x (10 ^ w)) refl (width-found k (w + 1) x)
 found : (x : ℕ) → Width (max_digits - 1) 1 x (width_of x)
 unfolding width_of
 found x = width-found (max_digits - 1) 1 x
+
+-- the only width with which a number fits, and with no digit less
+pub width_is : (x k : ℕ) → x < 10 ^ max_digits → x < 10 ^ suc k → (0 < k → 10 ^ k ≤ x) → width_of x ≡ suc k
+width_is x k h fits needed = omega (arith, low, high)
+  where
+    low : suc k ≤ width_of x
+    low = by (ltb (width_of x) (suc k)) refl
+      where
+        by : (b : Bool) → ltb (width_of x) (suc k) ≡ b → suc k ≤ width_of x
+        by false e = ltb-false (width_of x) (suc k) e
+        by true e =
+            let less : width_of x ≤ k = omega (arith, ltb-true (width_of x) (suc k) e) in
+            let some : 0 < k = omega (arith, (found x).least) in
+            let up : 10 ^ width_of x ≤ 10 ^ k = pow-le-pow_right (zero-lt-suc 9) less in
+            absurd (omega (arith, (found x).fits h, needed some))
+
+    high : width_of x ≤ suc k
+    high = by (width_of x) refl
+      where
+        by : (m : ℕ) → width_of x ≡ m → m ≤ suc k
+        by zero e = omega arith
+        by (suc p) e = at (ltb k p) refl
+          where
+            at : (b : Bool) → ltb k p ≡ b → suc p ≤ suc k
+            at false f = omega (arith, ltb-false k p f)
+            at true f =
+                let more : suc k ≤ p = omega (arith, ltb-true k p f) in
+                let up : 10 ^ suc k ≤ 10 ^ p = pow-le-pow_right (zero-lt-suc 9) more in
+                absurd (omega (arith, fits, (found x).needed p e (omega arith)))
 
 pub decimal-short : (x : ℕ) → length (decimal x) ≤ max_digits
 unfolding decimal

@@ -1,140 +1,145 @@
-// Numbers and lines as bytes in a lent buffer.
+// Numbers and lines as bytes.
 #![tactic(auto)]
 
-ghost use Rattle.std.specs.Prelude.{◌≡◌, List, [], ◌∷◌, ℕ, ◌+◌, ◌<◌, ◌≤◌, length};
-ghost use Rattle.text.specs.Decimal.{max_digits, width_of, decimal};
-ghost use Rattle.text.specs.Buffer.{Wrote, if_room};
-ghost use Rattle.text.specs.Lines.{part_room, line_room, part_bytes, line_bytes};
+ghost use Rattle.std.specs.Prelude.{◌≡◌, ℕ, ◌+◌, ◌<◌, ◌≤◌, List, ◌∷◌, ◌++◌, length, take, drop};
+ghost use Rattle.text.specs.Decimal.{decimal};
+ghost use Rattle.text.specs.Lines.{most_parts, part_room, line_room, part_bytes, line_bytes};
+ghost use Rattle.text.specs.Printing.{Prints};
+
+use std::io;
+use std::io::{ErrorKind, Write};
+use std::marker::Model;
 
 // "A number is 1 to 10 digits."
 pub const MAX_DIGITS: usize = 10;
 
+// The most parts of a line.
+pub const MAX_PARTS: usize = 5;
+
 // One part of a line, after its comma.
-#[derive(Clone, Copy)]
+#[derive(Debug, Clone, Copy, PartialEq, Eq)]
 pub enum Part {
     Number(u32),
     Letter(u8),
-    Nothing,
-}
-
-// A line: a letter and up to five parts.
-#[derive(Clone, Copy)]
-pub struct Line {
-    pub letter: u8,
-    pub first: Part,
-    pub second: Part,
-    pub third: Part,
-    pub fourth: Part,
-    pub fifth: Part,
 }
 
 // The most bytes a line has: its letter, five parts of a comma and a number, and the line feed.
-pub const LINE_ROOM: usize = 2 + 5 * (1 + MAX_DIGITS);
+const ROOM: usize = 2 + MAX_PARTS * (1 + MAX_DIGITS);
 
-// The number of digits of x: one more for each power of ten that x reaches. 02: "works each power out by repeated multiplication".
-fn width(x: u32) -> usize
-    ensures { (result ≡ width_of x) × (1 ≤ result) × (result ≤ max_digits) }
-{
-    let mut w: usize = 1;
-    let mut limit: u32 = 10;
-    while limit <= x {
-        w += 1;
-        if w == MAX_DIGITS {
-            return w;
+// A line that is printed. Its bytes stand at the end of the array, since it is written from its end on: of a number the last digit
+// comes first. An array and where the line starts in it: nothing here may allocate.
+#[derive(Drop)]
+pub struct Line {
+    bytes: [u8; ROOM],
+    start: usize,
+}
+
+impl Model for Line {
+    ghost Value = { List ℕ };
+
+    ghost view = { λ line. drop line.start line.bytes };
+
+    ghost invariant = { λ line. line.start ≤ line_room };
+}
+
+impl Line {
+    // A line: its letter, its parts, each after a comma, and the line feed. It has five parts at most: of more the first five.
+    #[tactic(auto, unfolding(crate::specs::Lines::line_bytes))]
+    pub fn new(letter: u8, parts: &[Part]) -> Line
+        ensures { result ≡ line_bytes (record { letter = letter; parts = take most_parts parts.now }) }
+    {
+        let mut line = Line {
+            bytes: [0; ROOM],
+            start: ROOM,
+        };
+        line.put(b'\n');
+        for part in parts[..parts.len().min(MAX_PARTS)].iter().rev() {
+            line.part(*part);
         }
-        limit = limit * 10;
+        line.put(letter);
+        line
     }
-    w
-}
 
-// Writes a byte at a place, and says where the next byte goes.
-fn put(out: &mut [u8], at: usize, b: u8) -> usize
-    requires { at < length out.old }
-    ensures { Wrote out.old at (b ∷ []) out.new result }
-{
-    out[at] = b;
-    at + 1
-}
+    // Prints the line.
+    pub fn print<W: Write>(&self, out: &mut W) -> io::Result<()>
+        ensures { Prints (W.contents out.old) (W.contents out.new) result self.now }
+    {
+        print(out, self.as_bytes())
+    }
 
-// Writes x at a place, its last digit first: each digit's power is ten times that of the one behind it.
-fn number(out: &mut [u8], at: usize, x: u32) -> usize
-    requires { at + max_digits ≤ length out.old }
-    ensures { (result ≤ at + max_digits) × (Wrote out.old at (decimal x) out.new result) }
-{
-    let w = width(x);
-    let last = at + w - 1;
-    let mut i: usize = 0;
-    let mut power: u32 = 1;
-    loop {
-        let d = x / power % 10;
-        out[last - i] = (48 + d) as u8;
-        i += 1;
-        if i == w {
-            return at + w;
+    // Its bytes, for a caller that keeps them in a buffer of its own.
+    pub fn as_bytes(&self) -> &[u8]
+        ensures { result.now ≡ self.now }
+    {
+        &self.bytes[self.start..]
+    }
+
+    // Puts a byte in front.
+    fn put(&mut self, byte: u8)
+        requires { length self.old < line_room }
+        ensures { self.new ≡ byte ∷ self.old }
+    {
+        self.start -= 1;
+        self.bytes[self.start] = byte;
+    }
+
+    // Puts the digits of x in front, the last one first: each digit's power of ten is ten times that of the one behind it.
+    // A loop, by a rule of the project: powers of ten are worked out by repeated multiplication.
+    fn number(&mut self, x: u32)
+        requires { length self.old + part_room ≤ line_room }
+        ensures text { self.new ≡ decimal x ++ self.old }
+        ensures short { length self.new < length self.old + part_room }
+    {
+        let mut power: u32 = 1;
+        let mut rest = x;
+        loop {
+            self.put(b'0' + (rest % 10) as u8);
+            if x / 10 < power {
+                return;
+            }
+            power = power * 10;
+            rest = rest / 10;
         }
-        power = power * 10;
+    }
+
+    // Puts a part in front, and its comma.
+    fn part(&mut self, part: Part)
+        requires { length self.old + part_room ≤ line_room }
+        ensures text { self.new ≡ part_bytes part ++ self.old }
+        ensures short { length self.new ≤ length self.old + part_room }
+    {
+        match part {
+            Part::Number(x) => self.number(x),
+            Part::Letter(letter) => self.put(letter),
+        }
+        self.put(b',');
     }
 }
 
-// A comma and a number.
-fn number_field(out: &mut [u8], at: usize, x: u32) -> usize
-    requires { at + part_room ≤ length out.old }
-    ensures { (result ≤ at + part_room) × (Wrote out.old at (44 ∷ decimal x) out.new result) }
+// Prints bytes, by as many writes as the writer takes. Not std's write_all: of an error that says nothing, and `Prints` does. The loop counts, since every
+// loop has to end.
+fn print<W: Write>(out: &mut W, bytes: &[u8]) -> io::Result<()>
+    ensures { Prints (W.contents out.old) (W.contents out.new) result bytes.now }
 {
-    let a = put(out, at, 44);
-    number(out, a, x)
-}
-
-// A comma and a letter.
-fn letter_field(out: &mut [u8], at: usize, k: u8) -> usize
-    requires { at + 2 ≤ length out.old }
-    ensures { Wrote out.old at (44 ∷ k ∷ []) out.new result }
-{
-    let a = put(out, at, 44);
-    put(out, a, k)
-}
-
-// A part, after its comma, or nothing.
-fn part_field(out: &mut [u8], at: usize, part: Part) -> usize
-    requires { at + part_room ≤ length out.old }
-    ensures { (result ≤ at + part_room) × (Wrote out.old at (part_bytes part) out.new result) }
-{
-    match part {
-        Part::Number(x) => number_field(out, at, x),
-        Part::Letter(k) => letter_field(out, at, k),
-        Part::Nothing => at,
+    let mut rest = bytes;
+    for _ in 0..u64::MAX {
+        if rest.is_empty() {
+            return Ok(());
+        }
+        match out.write(rest) {
+            Ok(0) => {
+                return Err(io::Error::new(ErrorKind::WriteZero, "failed to write whole buffer"))
+            }
+            Ok(n) => rest = &rest[n..],
+            Err(e) => {
+                if e.kind() != ErrorKind::Interrupted {
+                    return Err(e);
+                }
+            }
+        }
     }
-}
-
-// A line: its letter, its parts and the line feed.
-fn whole_line(out: &mut [u8], at: usize, line: Line) -> usize
-    requires { at + line_room ≤ length out.old }
-    ensures { (result ≤ at + line_room) × (Wrote out.old at (line_bytes line) out.new result) }
-{
-    let first = line.first;
-    let second = line.second;
-    let third = line.third;
-    let fourth = line.fourth;
-    let fifth = line.fifth;
-    let a = put(out, at, line.letter);
-    let b = part_field(out, a, first);
-    let c = part_field(out, b, second);
-    let d = part_field(out, c, third);
-    let e = part_field(out, d, fourth);
-    let f = part_field(out, e, fifth);
-    put(out, f, 10)
-}
-
-// Writes a line from a place on, and says where the next one goes: nothing, and the same place, where LINE_ROOM bytes are not left.
-pub fn write_line(out: &mut [u8], at: usize, line: Line) -> usize
-    ensures { (result ≤ at + line_room) × (Wrote out.old at (if_room line_room out.old at (line_bytes line)) out.new result) }
-{
-    let n = out.len();
-    if n < at {
-        return at;
-    }
-    if n - at < LINE_ROOM {
-        return at;
-    }
-    whole_line(out, at, line)
+    Err(io::Error::new(
+        ErrorKind::TimedOut,
+        "gave up reading or writing after 2^64 tries",
+    ))
 }

@@ -1,6 +1,7 @@
-use Rattle.std.proofs.Common.{arith}
-use Rattle.admission.proofs.Load.{turns-are}
+use Rattle.admission.proofs.Shares.{turns-are}
 use Rattle.admission.proofs.turns.Goals as goal
 
 pub returns : goal.returns
-returns c = turns-are c.args.l c.args.period c.args.part (omega arith) (omega arith) (omega arith) c.requires.3
+returns c =
+    let are = turns-are c.args.l c.args.period c.args.part c.requires.span c.requires.some c.requires.short c.requires.known in
+    rw c.from.ensures (record { count = are.0; most = are.1 })

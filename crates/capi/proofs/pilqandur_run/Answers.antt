@@ -2,9 +2,10 @@ use Rattle.std.proofs.Common.{length}
 use Rattle.capi.proofs.Laws.{run_is, list-is}
 use Rattle.capi.proofs.pilqandur_run.Goals as goal
 
-pub returns : goal.returns
-returns c =
-    let s = c.args.state in
-    let ys = c.args.entries.now in
-    let ran = c.run-moved.ensures in
-    (run_is s c.args.k (length ys) _ _ _ c.taken.ensures c.moved_result.ensures ran.0 ran.2, list-is s c.args.k ys _ _ c.taken.ensures ran.1)
+pub returns-clause-answer : goal.returns-clause-answer
+returns-clause-answer c =
+    let ran = c.run-answer in
+    run_is c.args.state c.args.k (length c.args.entries.now) _ ran.new.state ran.result _ c.taken-moved.ensures c.moved_result.ensures ran.ensures.next ran.ensures.in_figures
+
+pub returns-clause-record : goal.returns-clause-record
+returns-clause-record c = list-is c.args.state c.args.k c.args.entries.now _ _ c.taken-moved.ensures c.run-answer.ensures.record

@@ -1,10 +1,27 @@
-use Rattle.play.proofs.Laws.{run-within, run-made}
+use Rattle.std.proofs.Common.{arith, ap, sym, ◌∙◌, ◌≡◌, ◌≤◌, Ok, length, length-take-le}
+use Rattle.rules.specs.Block.{block_ticks}
+use Rattle.rules.specs.Calls.{run_check}
+use Rattle.play.specs.Report.{made_at}
+use Rattle.play.proofs.Laws.{drops-sum, run-ran, run-room}
 use Rattle.play.proofs.make_run.Goals as goal
+use Rattle.play.proofs.make_run.Goals.{In-Ok}
 
-pub sum_drops-requires : goal.sum_drops-requires
-sum_drops-requires c = run-within c.args.state c.args.k c.run_block-ran.result c.run_block-ran.ensures.0 c.ticks_ran-ticks.result c.ticks_ran-ticks.ensures
+passes : (c : In-Ok) → run_check c.args.state.now c.args.k block_ticks ≡ Ok tt
+passes c = sym c.in-Ok.ensures.answer
 
-pub returns : goal.returns
-returns c =
-    run-made c.args.state c.args.k c.run_block-ran.result c.run_block-ran.ensures.0 c.ticks_ran-ticks.result c.ticks_ran-ticks.ensures
-    c.sum_drops.result c.sum_drops.ensures
+room : (c : In-Ok) → c.args.k ≤ length c.run.new.entries
+room c =
+    let few = run-room c.args.state.now c.args.k c.run.new.state c.run.ensures.next (passes c) in
+    omega arith
+
+pub slice_bounds-entries-end : goal.slice_bounds-entries-end
+slice_bounds-entries-end c = room (goal.at.slice_bounds-entries-end c).In-Ok
+
+pub slice_bounds-sum_drops-end : goal.slice_bounds-sum_drops-end
+slice_bounds-sum_drops-end c = sym (length-take-le c.args.k c.run.new.entries (room (goal.at.slice_bounds-sum_drops-end c).In-Ok))
+
+pub returns-in-Ok : goal.returns-in-Ok
+returns-in-Ok c =
+    let x = c.run.new.state in
+    ap (made_at x c.args.k) (c.sum_drops.ensures ∙ drops-sum _)
+    ∙ run-ran c.args.state.now c.args.k x c.run.ensures.next (passes (goal.at.returns-in-Ok c).In-Ok) c.run.new.entries c.run.ensures.record

@@ -1,10 +1,26 @@
 -- What admission, set-up and the calls answer by their contracts, in one report.
-use Rattle.std.proofs.Common.{arith}
+use Rattle.std.proofs.Common.{arith, ◌∙◌, ◌≡◌, ap}
+use Rattle.table.specs.declared.State.{State}
+use Rattle.bounds.specs.declared.Admission.{Admission}
+use Rattle.rules.specs.Calls.{told}
 use Rattle.play.specs.Numbers.{calls_of}
-use Rattle.play.proofs.Laws.{played}
+use Rattle.play.specs.Report.{made, reported}
+use Rattle.play.specs.Promise.{promise}
+use Rattle.play.proofs.Laws.{told-or, played}
 use Rattle.play.proofs.play.Goals as goal
+use Rattle.play.proofs.play.Goals.{After-unwrap_or}
 
-pub returns : goal.returns
-returns c =
-    played c.args.table c.set_up-up.result c.set_up-up.ensures.0 c.admit-admission.result c.make_all-all.result c.waiting-told.result (calls_of c.args.calls.now) (omega arith)
-    c.admit-admission.ensures.0 c.make_all-all.ensures c.waiting-told.ensures.0
+reports : (c : After-unwrap_or) →
+    record { admitted = c.bounds_of.result.admitted; ticks = c.make_all-tally.result.ticks; drops = c.make_all-tally.result.drops; waiting = c.unwrap_or.result; state = c.make_all-tally.new.state }
+    ≡ reported c.args.table (calls_of c.args.calls.now)
+reports c =
+    let all = c.make_all-tally in
+    let starts = all.ensures ∙ ap (λ (s : State). made s (calls_of c.args.calls.now)) c.fresh-state.ensures in
+    played c.args.table c.bounds_of.result.admitted all.new.state all.result.ticks all.result.drops c.unwrap_or.result (calls_of c.args.calls.now)
+    (ap (λ (x : Admission). x.admitted) c.bounds_of.ensures) starts (c.unwrap_or.ensures ∙ told-or c.waiting.result ∙ ap told c.waiting.ensures.answer)
+
+pub returns-clause-reports : goal.returns-clause-reports
+returns-clause-reports c = reports (goal.at.returns-clause-reports c).After-unwrap_or
+
+pub returns-clause-keeps : goal.returns-clause-keeps
+returns-clause-keeps c = promise c.args.table (calls_of c.args.calls.now) _ (omega arith) (reports (goal.at.returns-clause-keeps c).After-unwrap_or)

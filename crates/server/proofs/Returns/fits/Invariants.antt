@@ -1,14 +1,11 @@
-use Rattle.std.proofs.Common.{◌-◌, ◌≡◌, ◌≤◌, ◌+◌, ◌*◌, take, drop}
+use Rattle.std.proofs.Common.{◌≡◌, ◌≤◌, ◌*◌, ◌+◌, drop}
 use Rattle.server.specs.Returns.{laid, held}
 use Rattle.server.proofs.Returns.fits.Given as goal
 
-abbrev pub invariant-loop-i : goal.invariant-loop-i
-invariant-loop-i l = record {
-  within : l.i ≤ l.n;
-  fitting : l.sum ≤ l.i * 4_294_967_295;
-  lying : laid l.initial.lo l.clock (take l.n l.stretches) ≡ laid l.lo l.clock (drop l.i (take l.n l.stretches));
-  holding : held (take l.n l.stretches) ≡ l.sum + held (drop l.i (take l.n l.stretches));
+-- the stretches so far are laid, and their ticks summed up
+abbrev pub invariant-loop-stretch : goal.invariant-loop-stretch
+invariant-loop-stretch l = record {
+  fitting : l.held ≤ l.stretch-index * 4_294_967_295;
+  lying : laid l.initial.earliest l.clock l.stretch-items ≡ laid l.earliest l.clock (drop l.stretch-index l.stretch-items);
+  holding : held l.stretch-items ≡ l.held + held (drop l.stretch-index l.stretch-items);
 }
-
-abbrev pub decreases-loop-i : goal.decreases-loop-i
-decreases-loop-i l = l.end - l.i

@@ -8,7 +8,6 @@ mod print;
 mod states;
 
 use print::{field, text};
-use rules::Entry;
 use states::{Edit, put, state};
 use std::io;
 use table::{State, Table};
@@ -35,10 +34,9 @@ fn request_call(
 
 // A run of k ticks, with a list of 32 idle entries.
 fn run_call(rt: &impl Print, mut state: State, k: u32) -> io::Result<()> {
-    let mut entries = [Entry::default(); 32];
-    let answer = scheduler::run(&mut state, k, &mut entries);
-    print::answered(rt, "; run ", answer, &state)?;
-    print::entries(rt, &entries)
+    let block = scheduler::run_block(&mut state, k);
+    print::answered(rt, "; run ", block.answer, &state)?;
+    print::entries(rt, &block.entries)
 }
 
 // What the calls on a table answer.

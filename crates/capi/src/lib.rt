@@ -142,22 +142,25 @@ pub fn pilqandur_version() -> u32
     VERSION
 }
 
-// The number of a table's refusal, and the index of refusal 2; both are 0 where it passes.
+// What set-up answers, in numbers: its refusal, and the index of refusal 2; both are 0 where the table passes.
 // inline(never): to keep the stack of the C call for set-up small.
 #[inline(never)]
-fn check_numbers(table: &Table) -> (u32, u32)
+fn set_up_numbers(table: &Table) -> (u32, u32)
     ensures number { result.0 ≡ (table_figures table.now).number }
     ensures index { result.1 ≡ (table_figures table.now).value }
 {
-    let answer = table.check();
-    (number_of(answer), value_of(answer))
+    match table.set_up() {
+        Ok(_) => (0, 0),
+        Err(refusal) => (refusal.number(), value_of(Err(refusal))),
+    }
 }
 
-// Set-up: the fresh state of a table, or refusal 1, 2 or 3.
+// Set-up: the fresh state of a table, or refusal 1, 2 or 3. The state that set-up gives is the fresh one, which stands beside a refusal too: it
+// is written once, which keeps the call's stack small.
 pub fn pilqandur_set_up(table: Table) -> SetUpResult
     ensures { result ≡ set_up_result (table_figures table) (fresh_state table) }
 {
-    let (number, index) = check_numbers(&table);
+    let (number, index) = set_up_numbers(&table);
     SetUpResult {
         number,
         index,

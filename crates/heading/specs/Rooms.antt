@@ -1,4 +1,4 @@
--- How many bytes the head and the verdict have at most.
+-- How many bytes the head and the verdict have at most: so many must be free in a buffer before they are written into it.
 use Rattle.std.specs.Prelude.{ℕ, ◌+◌, ◌*◌}
 use Rattle.table.specs.Limits.{max_tasks}
 use Rattle.text.specs.Lines.{line_room}

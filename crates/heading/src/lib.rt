@@ -5,9 +5,12 @@ ghost use Rattle.bounds.specs.Admission.{admission_of};
 ghost use Rattle.text.specs.Printing.{Prints};
 ghost use Rattle.heading.specs.Heading.{head_text};
 
+pub use lent::{HEAD_ROOM, head, refused};
 use std::io;
 use std::io::Write;
 use table::Table;
+
+mod lent;
 
 // Prints a B line for each task, the server's, and the V line. The bounds in use are counted as the tasks are, of a refused table too.
 pub fn print_head<W: Write>(table: &Table, out: &mut W) -> io::Result<()>

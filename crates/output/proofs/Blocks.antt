@@ -24,7 +24,7 @@ use Rattle.text.specs.Lines.{line_room, line_bytes}
 use Rattle.text.specs.Buffer.{Wrote, wrote-same}
 use Rattle.std.specs.Prelude.{Option, Some, None, Ok}
 use Rattle.plan.specs.declared.line.Arrival.{Arrival}
-use Rattle.output.specs.Place.{Place}
+use Rattle.output.specs.declared.lent.Place.{Place}
 use Rattle.heading.specs.Heading.{numbered}
 use Rattle.output.specs.Totals.{answered}
 use Rattle.output.specs.Output.{occupant_line, tick_text}

@@ -5,7 +5,7 @@ use Rattle.queue.specs.Queue.{waiting_of}
 use Rattle.rules.specs.declared.Entry.{Entry}
 use Rattle.output.specs.declared.totals.Totals.{Totals}
 use Rattle.output.specs.Totals.{counted}
-use Rattle.output.specs.Place.{Place}
+use Rattle.output.specs.declared.lent.Place.{Place}
 use Rattle.output.specs.Blocks.{Free, block_totals}
 use Rattle.output.proofs.Blocks.{unfinished-less, undisturbed_less}
 

@@ -7,7 +7,7 @@ use native.Mathlib.Omega.{arith}
 use Rattle.text.specs.Buffer.{Wrote, if_room, has_room, front, wrote_length}
 use Rattle.text.specs.Lines.{line_room}
 use Rattle.output.specs.Rooms.{step_room}
-use Rattle.output.specs.Place.{Place}
+use Rattle.output.specs.declared.lent.Place.{Place}
 use Rattle.output.specs.Totals.{closing_text}
 use Rattle.output.specs.Output.{ticks_text}
 use Rattle.output.specs.Steps.{steps_from, Taken}

@@ -11,7 +11,7 @@ use Rattle.plan.specs.declared.line.Arrival.{Arrival}
 use Rattle.std.specs.Prelude.{Option, Some, None}
 use Rattle.plan.specs.Plan.{arrivals_from, next_from, unrolled}
 use Rattle.plan.proofs.Arrivals.{walked}
-use Rattle.output.specs.Place.{Place}
+use Rattle.output.specs.declared.lent.Place.{Place}
 use Rattle.output.specs.declared.totals.Totals.{Totals}
 use Rattle.output.specs.Totals.{answered}
 use Rattle.output.specs.Output.{answer_text, tick_text, arrival_call, due_text, after_due, later, ticks_text}

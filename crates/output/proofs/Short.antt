@@ -15,7 +15,7 @@ use Rattle.heading.proofs.Short.{numbered_short}
 use Rattle.output.specs.declared.totals.Totals.{Totals}
 use Rattle.output.specs.Totals.{closing_text}
 use Rattle.output.specs.Output.{answer_text, occupant_line, finish_text, tick_text, arrival_call}
-use Rattle.output.specs.Place.{Place}
+use Rattle.output.specs.declared.lent.Place.{Place}
 use Rattle.output.specs.Rooms.{step_room}
 use Rattle.output.specs.Steps.{Step, step_from}
 use Rattle.output.specs.Blocks.{entry_line, block_text}

@@ -9,7 +9,7 @@ use Rattle.std.proofs.lemmas.Bool.{eqb-false, lt-leb}
 use Rattle.text.specs.Buffer.{then, nothing_written, wrote_length}
 use Rattle.plan.specs.declared.line.Arrival.{Arrival}
 use Rattle.std.specs.Prelude.{Option, Some, None}
-use Rattle.output.specs.Place.{Place}
+use Rattle.output.specs.declared.lent.Place.{Place}
 use Rattle.output.specs.Steps.{NotDue, Step, Stepped, Taken, and_then, no_step, presented, step_by, step_from, steps_from, tick_run}
 
 -- ---- which step a place has

@@ -17,7 +17,7 @@ use Rattle.plan.specs.Refusal.{number}
 use Rattle.plan.specs.Plan.{max_bytes, plan_of, next_from, unrolled}
 use Rattle.plan.proofs.Arrivals.{walked}
 use Rattle.heading.specs.Heading.{head_text}
-use Rattle.output.specs.Place.{Place}
+use Rattle.output.specs.declared.lent.Place.{Place}
 use Rattle.output.specs.Totals.{no_totals, closing_text}
 use Rattle.output.specs.Output.{ticks_text, text_by, schedule_text}
 use Rattle.output.specs.Steps.{first_place}

@@ -10,7 +10,7 @@ use Rattle.text.specs.Lines.{Line, line_bytes}
 use Rattle.lines.specs.Lines.{tick_line}
 use Rattle.std.specs.Prelude.{Option, Some, None}
 use Rattle.plan.specs.declared.line.Arrival.{Arrival}
-use Rattle.output.specs.Place.{Place}
+use Rattle.output.specs.declared.lent.Place.{Place}
 use Rattle.heading.specs.Heading.{numbered}
 use Rattle.output.specs.declared.totals.Totals.{Totals}
 use Rattle.output.specs.Totals.{counted}

@@ -3,7 +3,6 @@ pub mod Coming
 pub mod Output
 pub mod Printed
 pub mod Cases
-pub mod Place
 pub mod Rooms
 pub mod Steps
 pub mod Blocks

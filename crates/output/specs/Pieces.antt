@@ -1,8 +1,8 @@
--- A buffer filled with steps of that text, for the laws of its pieces.
+-- A buffer of the output, filled: what `fill` promises.
 use Prim.Native.Nat.{ℕ, ◌+◌, ◌≤◌, ◌<◌}
 use Rattle.std.specs.Prelude.{List, ◌⊎◌, length}
 use Rattle.output.specs.Rooms.{step_room}
-use Rattle.output.specs.Place.{Place}
+use Rattle.output.specs.declared.lent.Place.{Place}
 use Rattle.output.specs.Steps.{steps_from, Taken}
 
 -- A filled buffer. How many steps it holds is left free, and nothing else: they are taken from p on, into the buffer from its start,

@@ -2,7 +2,7 @@
 use Prim.Native.Nat.{ℕ, ◌-◌}
 use mathlib.Core.List.{List}
 use Rattle.plan.specs.Plan.{unrolled}
-use Rattle.output.specs.Place.{Place}
+use Rattle.output.specs.declared.lent.Place.{Place}
 use Rattle.output.specs.Output.{ticks_text}
 
 -- what is still to be printed at a place, of a plan's bytes and its ticks

@@ -1,4 +1,4 @@
--- How many bytes a step's text has at most.
+-- How many bytes a step's text has at most: so many must be free in a buffer before a step begins.
 use Rattle.std.specs.Prelude.{ℕ, ◌*◌}
 use Rattle.text.specs.Lines.{line_room}
 

@@ -1,4 +1,4 @@
--- The text of a plan's ticks, step by step: where it stands after some steps, and what they print. No function prints by steps; laws speak of them.
+-- The text of a plan's ticks, step by step: where it stands after some steps, and what they print. `fill` prints by them, as far as a lent buffer has room.
 use Prim.Native.Nat.{ℕ, zero, suc, ◌+◌, ◌≤◌, ◌<◌}
 use Rattle.std.specs.Prelude.{◌≡◌, cond, length, eqb, leb}
 use mathlib.Core.List.{List, [], ◌++◌}
@@ -9,7 +9,7 @@ use Rattle.text.specs.Buffer.{Wrote}
 use Rattle.plan.specs.declared.line.Arrival.{Arrival}
 use Rattle.std.specs.Prelude.{Option, Some, None}
 use Rattle.plan.specs.Plan.{next_from}
-use Rattle.output.specs.Place.{Place}
+use Rattle.output.specs.declared.lent.Place.{Place}
 use Rattle.output.specs.Totals.{no_totals, answered}
 use Rattle.output.specs.Output.{answer_text, tick_text, arrival_call}
 

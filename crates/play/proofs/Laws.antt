@@ -16,11 +16,13 @@ use Rattle.table.specs.declared.State.{State}
 use Rattle.table.specs.declared.Refusal.{Refusal}
 use Rattle.table.specs.Limits.{max_tasks}
 use Rattle.table.specs.Refusal.{passed}
-use Rattle.table.specs.State.{fresh_state, fit}
+use Rattle.table.specs.State.{fresh_state, set_up_call, fit}
+use Rattle.table.proofs.Laws.{set_up_or_fresh}
 use Rattle.bounds.specs.Admission.{admission_of}
 use Rattle.rules.specs.declared.Entry.{Entry}
 use Rattle.rules.specs.Calls.{unless, clock_allows, run_check, run_call, run_list, waiting_call, told}
 use Rattle.rules.specs.Block.{block_ticks, idle_entries}
+use Rattle.scheduler.specs.Allowance.{block_call}
 use Rattle.scheduler.specs.Laws.{run_length}
 use Rattle.guarantee.specs.Calls.{Call, run, after, final}
 use Rattle.play.specs.Numbers.{call_of, calls_of}
@@ -58,6 +60,30 @@ module _ (s : State) (k : ℕ) (x : State) (e : x ≡ (run_call s k block_ticks)
       go true true false e p = absurd cc
       go true false b e p = absurd cc
       go false c b e p = absurd cc
+
+-- ---- a block of k ticks is that run of a list of idle entries
+module _ (s : State) (k : ℕ) (x : State) (e : x ≡ (block_call s k).state) (a : Result Unit Refusal) (ea : a ≡ (block_call s k).answer) where
+  moved : x ≡ (run_call s k block_ticks).state
+  unfolding block_call
+  moved = e
+
+  passes : a ≡ Ok tt → run_check s k block_ticks ≡ Ok tt
+  unfolding block_call
+  passes p = sym ea ∙ p
+
+  pub block-ran : a ≡ Ok tt → (es : List Entry) → es ≡ (block_call s k).entries → made_at x k (drops_in (take k es)) ≡ made s (run k idle_entries ∷ [])
+  unfolding block_call
+  block-ran p es f = run-ran s k x moved (passes p) es f
+
+  pub block-room : a ≡ Ok tt → k ≤ block_ticks
+  block-room p = run-room s k x moved (passes p)
+
+  -- a refused one runs no tick
+  pub block-refused : (r : Refusal) → a ≡ Err r → made_at x 0 0 ≡ made s (run k idle_entries ∷ [])
+  unfolding block_call
+  block-refused r p =
+      let refused : run_check s k block_ticks ≡ Err r = sym ea ∙ p in
+      rw (moved, refused) refl
 
 -- ---- the numbers that remain: a whole call more, or none
 call_more : (x rest : List ℕ) → length x ≡ 3 → calls_of (x ++ rest) ≡ call_of (get_or x 0 0) (get_or x 1 0) (get_or x 2 0) ∷ calls_of rest
@@ -118,6 +144,10 @@ module _ (s₀ : State) (l : List ℕ) where
       counted s (omega arith) (omega arith) ∙ ap (λ (cs : List Call). plus n d (made s cs)) (sym (call_none rest none)) ∙ h.adds
 
 -- ---- a table, admitted or not, set up and played
+-- the state that set-up gives; beside a refusal the fresh state
+pub set_up-fresh : (t : Table) (a : Result State Refusal) (f x : State) → a ≡ set_up_call t → f ≡ fresh_state t → x ≡ result_unwrap_or a f → x ≡ fresh_state t
+set_up-fresh t a f x ea ef ex = ex ∙ (λ j. result_unwrap_or (ea j) (ef j)) ∙ set_up_or_fresh t
+
 -- the figure of the waiting call; 0 beside a refusal
 pub told-or : (a : Result ℕ Refusal) → result_unwrap_or a 0 ≡ told a
 told-or (Ok work) = refl

@@ -57,9 +57,6 @@ pub struct Report {
     pub state: State,
 }
 
-// How many entries a run is lent.
-const BLOCK: usize = 32;
-
 // The drops that a run has written into its entries.
 fn sum_drops(entries: &[Entry]) -> u64
     requires { length entries.now ≤ block_ticks }
@@ -89,23 +86,18 @@ fn make_tick(state: &mut State) -> Tally
     }
 }
 
-// A run of k ticks, which is lent a block's list of idle entries, with the drops that it wrote there. So k may be 0 to 32; a longer run
-// is refused, by 10 where not by 11 or 6.
+// A run of a block of k ticks (`run_block`: a list of idle entries is lent), with the drops that it wrote there. So k may be 0 to 32; a
+// longer run is refused, by 10 where not by 11 or 6.
 fn make_run(state: &mut State, k: u32) -> Tally
     ensures { made_at state.new result.ticks result.drops ≡ made state.old (run k idle_entries ∷ []) }
 {
-    // written out: of an array of defaults the proof did not close
-    let mut entries = [Entry {
-        kind: 0,
-        id: 0,
-        drops: 0,
-    }; BLOCK];
-    match scheduler::run(state, k, &mut entries) {
+    let block = scheduler::run_block(state, k);
+    match block.answer {
         Ok(()) => Tally {
             ticks: k,
-            drops: sum_drops(&entries[..k as usize]),
+            drops: sum_drops(&block.entries[..k as usize]),
         },
-        Err(_) => Tally::default(),
+        Err(_) => Tally { ticks: 0, drops: 0 },
     }
 }
 
@@ -142,7 +134,7 @@ pub fn play(table: Table, calls: &[u32]) -> Report
     ensures reports { result ≡ reported table (calls_of calls.now) }
     ensures keeps { Promise table (calls_of calls.now) result }
 {
-    let mut state = table.fresh();
+    let mut state = table.set_up().unwrap_or(table.fresh());
     let tally = make_all(&mut state, calls);
     Report {
         admitted: admission::bounds_of(&table).admitted,

@@ -3,16 +3,19 @@
 // step 4, `work` step 5, and `ticking` puts them together with steps 3 and 6.
 #![tactic(auto)]
 
-ghost use Rattle.std.specs.Prelude.{length, ◌+◌, ◌≤◌, ◌≡◌, true};
+ghost use Rattle.std.specs.Prelude.{length, ◌+◌, ◌≤◌, ◌≡◌, true, OnOk, OnErr};
 ghost use Rattle.server.specs.Limits.{last_clock};
 ghost use Rattle.server.specs.Returns.{max_held};
 ghost use Rattle.queue.specs.Queue.{max_waiting};
 ghost use Rattle.table.specs.Limits.{max_tasks};
 ghost use Rattle.table.specs.Refusal.{figures};
 ghost use Rattle.table.specs.State.{fit};
-ghost use Rattle.rules.specs.Calls.{request_call, tick_call, run_check, run_call, run_list, run_state, run_entries, waiting_call};
+ghost use Rattle.rules.specs.Calls.{request_call, tick_call, run_call, run_list, run_state, run_entries, waiting_call};
 ghost use Rattle.rules.specs.Laws.{Sized};
+ghost use Rattle.rules.specs.Block.{block_ticks};
 ghost use Rattle.rules.specs.Figures.{request_figures, answer_figures, tick_figures, run_figures, waiting_figures};
+ghost use Rattle.scheduler.specs.Allowance.{allowance, block_call};
+ghost use Rattle.scheduler.specs.Opening.{calm_of};
 ghost use Rattle.scheduler.specs.Known.{Known};
 
 use queue::{Queue, Request};
@@ -43,12 +46,14 @@ pub fn tick(state: &mut State) -> Result<Ticked, Refusal>
     fit_tick(state, &mut calm)
 }
 
-// The tick call of a fit state.
+// The tick call of a fit state. A refused one leaves the calm as it is.
 fn fit_tick(state: &mut State, calm: &mut u32) -> Result<Ticked, Refusal>
     requires { Known state.old true calm.old }
     ensures answer { result ≡ (tick_call state.old).answer }
     ensures next { state.new ≡ (tick_call state.old).state }
     ensures in_figures { answer_figures result ≡ tick_figures state.old }
+    ensures calm { OnOk result (calm.new ≡ calm_of state.old calm.old) }
+    ensures calm_kept { OnErr result (calm.new ≡ calm.old) }
     ensures known { Known state.new true calm.new }
 {
     if Table::LAST_CLOCK <= state.progress.clock {
@@ -100,8 +105,39 @@ pub fn waiting(state: &State) -> Result<u32, Refusal>
     Ok(state.queue.backlog)
 }
 
+// What a run of a block of ticks at most answers, and the record of its ticks.
+#[derive(Debug, Clone, Copy, PartialEq, Eq)]
+pub struct Recording {
+    pub answer: Result<(), Refusal>,
+    pub entries: [Entry; Recording::TICKS],
+}
+
+impl Recording {
+    // How many ticks a block has.
+    pub const TICKS: usize = 32;
+}
+
+// The run call with a list of idle entries, as many as a block has: a caller that lends none has the record of the ticks all the same. A
+// refused run leaves the state as it is, and all entries idle.
+#[tactic(auto, unfolding(crate::specs::Allowance::block_call))]
+pub fn run_block(state: &mut State, k: u32) -> Recording
+    ensures answer { result.answer ≡ (block_call state.old k).answer }
+    ensures record { result.entries ≡ (block_call state.old k).entries }
+    ensures next { state.new ≡ (block_call state.old k).state }
+    ensures in_figures { figures result.answer ≡ run_figures state.old k block_ticks }
+{
+    let mut entries = [Entry {
+        kind: 0,
+        id: 0,
+        drops: 0,
+    }; Recording::TICKS];
+    let answer = run(state, k, &mut entries);
+    Recording { answer, entries }
+}
+
 // The run call: k ticks, the record of each in the lent list, or refusal 11, 6 or 10. Fitness is looked at once, and the tasks only where
 // the calm ends.
+#[tactic(auto, unfolding(crate::specs::Allowance::allowance))]
 pub fn run(state: &mut State, k: u32, entries: &mut [Entry]) -> Result<(), Refusal>
     ensures answer { result ≡ (run_call state.old k (length entries.old)).answer }
     ensures next { state.new ≡ (run_call state.old k (length entries.old)).state }
@@ -128,8 +164,9 @@ fn run_ticks(state: &mut State, entries: &mut [Entry])
 }
 
 // Refusals 11, 6 and 10, in this order, of a run of k ticks with so many entries lent.
+#[tactic(auto, unfolding(crate::specs::Allowance::allowance))]
 fn check_run(state: &State, k: u32, lent: usize) -> Result<(), Refusal>
-    ensures { result ≡ run_check state.now k lent }
+    ensures { result ≡ (allowance state.now k lent).answer }
 {
     if !state.fit() {
         return Err(Refusal::UnfitState);

@@ -44,6 +44,13 @@ impl Session {
         }
     }
 
+    // The session's state, handed back.
+    pub fn into_state(self) -> State
+        ensures { result ≡ self }
+    {
+        self.state
+    }
+
     // The tick call.
     pub fn tick(&mut self) -> Result<Ticked, Refusal>
         ensures answer { result ≡ (tick_call self.old).answer }

@@ -3,17 +3,19 @@ use Prim.Native.Nat.{ℕ, zero, suc, ◌+◌, ◌-◌, ◌≤◌, ◌<◌}
 use native.Mathlib.Omega.{arith}
 use native.Mathlib.Numerals.{add-one}
 use mathlib.Core.Path.{◌≡◌, refl, sym, ap, ◌∙◌}
-use mathlib.Core.Bool.{Bool, true, false, ◌||◌}
+use mathlib.Core.Bool.{Bool, true, false, cond, ◌||◌, ◌&&◌}
 use mathlib.Core.List.{List, [], ◌∷◌, ◌++◌}
-use borrow.Author.Tests.{le-leb, lt-leb, lt-ltb, eq-eqb, eqb-true}
-use lib.Dec.{eqb, ltb}
+use borrow.Author.Tests.{leb-true, leb-false, ltb-true, le-leb, lt-leb, lt-ltb, le-ltb, eq-eqb, eqb-true}
+use lib.Dec.{eqb, ltb, leb}
 use lib.ListN.{length, take, drop, get_or, set}
-use lib.Seq.{length-take-le, paste, take-length}
-use Rattle.lists.specs.Tests.{never}
+use lib.Seq.{length-take-le, paste, set-get_or, take-length}
+use Rattle.lists.specs.Tests.{never, and_split}
 use Rattle.lists.specs.Lists.{overlay, overlay_take, overlay-push, length_push, moved_up}
 use Rattle.server.specs.declared.Stretch.{Stretch}
 use Rattle.server.specs.declared.Returns.{Returns}
+use Rattle.server.specs.declared.Slot.{Slot}
 use Rattle.server.specs.Returns.{max_held, end_of, returns_with, comes_back, returned, goes_on, grown, held_with}
+use Rattle.server.specs.Advanced.{slot_for}
 
 abbrev pub returns_of : List Stretch → ℕ → Returns
 returns_of l n = record { stretches = l; n = n }
@@ -129,3 +131,45 @@ pub held_new : (t : ℕ) (l : List Stretch) (n : ℕ) → n < max_held → n < l
 held_new t l n a h e =
     let u : Stretch = record { start = t; length = 1 } in
     rw (length-take-le n l (omega arith), lt-ltb n max_held a, grown-push t (take n l) e, overlay-push n l u h, length_push n l u h, add-one)
+
+held-full : (t : ℕ) (l : List Stretch) (n : ℕ) → max_held ≤ n → n ≤ length l → goes_on t (take n l) ≡ false → returns_of l n ≡ held_with (returns_of l n) t
+held-full t l n a h e = rw (length-take-le n l h, le-ltb n max_held a, e)
+
+-- the slot
+pub slot_on : (last : Stretch) (n t : ℕ) → ltb 0 n && eqb (end_of last) t ≡ true →
+    record { at = n - 1; stretch = record { start = last.start; length = last.length + 1 }; n = n } ≡ slot_for last n t
+slot_on last n t e = rw e
+
+pub slot_full : (last : Stretch) (n t : ℕ) → ltb 0 n && eqb (end_of last) t ≡ false → max_held ≤ n → record { at = n - 1; stretch = last; n = n } ≡ slot_for last n t
+slot_full last n t e h = rw (e, le-leb max_held n h)
+
+pub slot_new : (last : Stretch) (n t : ℕ) → ltb 0 n && eqb (end_of last) t ≡ false → n < max_held →
+    record { at = n; stretch = record { start = t; length = 1 }; n = n + 1 } ≡ slot_for last n t
+slot_new last n t e h = rw (e, lt-leb max_held n h)
+
+pub slot_some : (n : ℕ) (b : Bool) → ltb 0 n && b ≡ true → 0 < n
+slot_some n b e = ltb-true 0 n (and_split (ltb 0 n) b e).0
+
+-- a tick held in its slot
+module _ (d : Stretch) (t : ℕ) (l : List Stretch) (n : ℕ) (few : n ≤ max_held) (long : length l ≡ max_held) where
+  abbrev last : Stretch
+  last = get_or l (n - 1) d
+
+  pub on-all : ltb 0 n && eqb (end_of last) t ≡ goes_on t (take n l)
+  on-all = go n (omega arith)
+    where
+      go : (n : ℕ) → n ≤ length l → ltb 0 n && eqb (end_of (get_or l (n - 1) d)) t ≡ goes_on t (take n l)
+      go zero h = refl
+      go (suc n) h = rw (lt-ltb 0 (suc n) (omega arith)) (on_some d t l (suc n) (omega arith) h)
+
+  pub held_slot : returns_of (set l (slot_for last n t).at (slot_for last n t).stretch) (slot_for last n t).n ≡ held_with (returns_of l n) t
+  held_slot = go (ltb 0 n && eqb (end_of last) t) refl (leb max_held n) refl
+    where
+      go : (b : Bool) → ltb 0 n && eqb (end_of last) t ≡ b → (f : Bool) → leb max_held n ≡ f →
+          let h : Slot = cond b (record { at = n - 1; stretch = record { start = last.start; length = last.length + 1 }; n = n })
+          (cond f (record { at = n - 1; stretch = last; n = n }) (record { at = n; stretch = record { start = t; length = 1 }; n = n + 1 })) in
+          returns_of (set l h.at h.stretch) h.n ≡ held_with (returns_of l n) t
+      go true e f q = held_on d t l n (slot_some n (eqb (end_of last) t) e) (omega arith) (sym on-all ∙ e)
+      go false e true q =
+          ap (λ (x : List Stretch). returns_of x n) (set-get_or l (n - 1) d) ∙ held-full t l n (leb-true max_held n q) (omega arith) (sym on-all ∙ e)
+      go false e false q = held_new t l n (leb-false max_held n q) (omega (arith, leb-false max_held n q)) (sym on-all ∙ e)

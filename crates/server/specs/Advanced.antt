@@ -1,15 +1,16 @@
 -- Kind 4's steps as the code takes them: a tick reads the facts of an `Edge`, and moves the array of returns where a held tick
 -- comes back or a tick is served. Of states that pass no check the array stays as it is.
-use Rattle.std.specs.Prelude.{ℕ, ◌+◌, Bool, true, false, cond, ◌&&◌, ◌||◌, List, leb, ltb}
+use Rattle.std.specs.Prelude.{ℕ, ◌+◌, ◌-◌, Bool, true, false, cond, ◌&&◌, ◌||◌, List, get_or, leb, ltb, eqb}
 use Rattle.server.specs.declared.Server.{Server}
 use Rattle.server.specs.declared.ServerState.{ServerState}
 use Rattle.server.specs.declared.Stretch.{Stretch}
 use Rattle.server.specs.declared.Returns.{Returns}
 use Rattle.server.specs.declared.Edge.{Edge}
+use Rattle.server.specs.declared.Slot.{Slot}
 use Rattle.server.specs.Consumed.{last32}
 use Rattle.server.specs.Kind.{Kind, background, polling, deferrable, sporadic, returning, kind_of}
 use Rattle.server.specs.Server.{with_budget, replenish}
-use Rattle.server.specs.Returns.{max_held, held_of, returns_with, comes_back, returned, room_at, held_with}
+use Rattle.server.specs.Returns.{max_held, end_of, held_of, returns_with, comes_back, returned, room_at, held_with}
 
 -- ---- what a tick reads
 -- how many ticks after its service a tick comes back: the period under kind 4, and 0 under the others, which hold none
@@ -58,6 +59,17 @@ replenished_by s x t busy back = replenished_for (kind_of s.kind) s x t busy bac
 -- a served tick is held
 abbrev pub held_if : Bool → ℕ → Returns → Returns
 held_if serves t r = cond serves (held_with r t) r
+
+-- the slot that holds it, and how many are held then, by the last of the n stretches that are; where there is no room, the last as it is
+abbrev pub slot_for : Stretch → ℕ → ℕ → Slot
+slot_for last n t =
+    cond (ltb 0 n && eqb (end_of last) t) (record { at = n - 1; stretch = record { start = last.start; length = last.length + 1 }; n = n })
+    (cond (leb max_held n) (record { at = n - 1; stretch = last; n = n })
+    (record { at = n; stretch = record { start = t; length = 1 }; n = n + 1 }))
+
+-- the last stretch that is held, or the first slot where none is
+abbrev pub last_of : Returns → Stretch
+last_of r = get_or r.stretches (r.n - 1) (record { start = 0; length = 0 })
 
 -- where the count and the period keep their limits, and tick t is not the last number of 32 bits
 abbrev pub may_advance : ℕ → ℕ → Returns → Bool

@@ -80,6 +80,14 @@ pub struct Edge {
     pub holds: bool,
 }
 
+// Where a server of kind 4 holds a tick: a slot, the stretch that it then has, and how many are held.
+#[derive(Debug, Clone, Copy, PartialEq, Eq)]
+pub struct Slot {
+    pub at: usize,
+    pub stretch: Stretch,
+    pub n: u32,
+}
+
 // What a tick shows the server at step 5: its number, whether a task above the server is open in it, whether any task is,
 // whether the server serves it by its budget, whether a request waited at step 4, and whether none waits after the tick's work.
 #[derive(Debug, Clone, Copy, PartialEq, Eq)]

@@ -3,10 +3,10 @@
 ghost use Rattle.std.specs.Prelude.{◌≡◌, ◌≤◌, ◌<◌};
 ghost use Rattle.server.specs.Consumed.{last32};
 ghost use Rattle.server.specs.Returns.{max_held, end_of, held_of, returns_with, comes_back, returned, goes_on, room_at, held_with, stretch_fits, fresh_returns, returns_fit};
-ghost use Rattle.server.specs.Advanced.{no_edge, edge_within, regained, advanced};
+ghost use Rattle.server.specs.Advanced.{no_edge, edge_within, regained, slot_for, last_of, advanced};
 
 use crate::periodic::with_budget;
-use crate::{Edge, Returns, Server, ServerState, Stretch};
+use crate::{Edge, Returns, Server, ServerState, Slot, Stretch};
 
 impl Returns {
     // Nothing is held, and every slot is 0. Written out, as `Queue::fresh` is.
@@ -150,21 +150,49 @@ impl Returns {
         }
     }
 
-    // Tick t is held, on the last stretch or as one of its own; where there is no room, it is not.
+    // Tick t is held, in its slot.
     fn hold(&mut self, t: u32)
         requires few { self.old.n ≤ max_held }
         requires early { t < last32 }
         ensures { self.new ≡ held_with self.old t }
     {
-        let n = self.n as usize;
+        let held = self.slot_for(t);
+        self.stretches[held.at] = held.stretch;
+        self.n = held.n;
+    }
+
+    // Where a served tick t is held: on the last stretch, or as one of its own; and where there is no room, the last as it is.
+    fn slot_for(&self, t: u32) -> Slot
+        requires few { self.now.n ≤ max_held }
+        requires early { t < last32 }
+        ensures { result ≡ slot_for (last_of self.now) self.now.n t }
+    {
+        let n = self.n;
         if self.goes_on(t) {
-            self.stretches[n - 1].length += 1;
-        } else if self.n < Returns::CAPACITY {
-            self.stretches[n] = Stretch {
+            let last = self.stretches[n as usize - 1];
+            return Slot {
+                at: n as usize - 1,
+                stretch: Stretch {
+                    start: last.start,
+                    length: last.length + 1,
+                },
+                n,
+            };
+        }
+        if Returns::CAPACITY <= n {
+            return Slot {
+                at: n as usize - 1,
+                stretch: self.stretches[n as usize - 1],
+                n,
+            };
+        }
+        Slot {
+            at: n as usize,
+            stretch: Stretch {
                 start: t,
                 length: 1,
-            };
-            self.n += 1;
+            },
+            n: n + 1,
         }
     }
 }

@@ -1,7 +1,7 @@
 // The table of tasks with its server, its limits, and the state that the calls move.
 #![tactic(auto)]
 
-ghost use Rattle.std.specs.Prelude.{◌≡◌, ◌&&◌, leb, not, position, Some};
+ghost use Rattle.std.specs.Prelude.{◌≡◌, ◌&&◌, false, leb, not, position, Some, OnErr};
 ghost use Rattle.std.specs.List.{zip, list_all};
 ghost use Rattle.lists.specs.Tests.{every};
 ghost use Rattle.queue.specs.Queue.{max_waiting};
@@ -206,10 +206,13 @@ impl Table {
         Ok(())
     }
 
-    // Set-up: the fresh state, of a table that passes.
+    // Set-up: the fresh state, of a table that passes. That of a refused table (`fresh`) is unfit, so that every later call on it refuses.
+    // inline(always): a caller that wants the answer alone then makes no state.
+    #[inline(always)]
     pub fn set_up(&self) -> Result<State, Refusal>
         ensures answer { result ≡ set_up_call self.now }
         ensures in_figures { figures result ≡ table_figures self.now }
+        ensures unfit { OnErr result (fit (fresh_state self.now) ≡ false) }
     {
         self.check()?;
         Ok(self.fresh())

@@ -38,24 +38,24 @@ module _ {x p : ℕ} {l m : List ℕ} (d : Digits x p l m) where
   so_far = omega (arith, ap length d.text, length-append (digits_of d.count x) l, length_digits d.count x)
 
   -- the digit of the power p, in front
-  digit : (48 + x / p % 10) ∷ m ≡ digits_of (suc d.count) x ++ l
+  digit : {q r : ℕ} → q ≡ p → r ≡ 10 → (48 + x / q % r) ∷ m ≡ digits_of (suc d.count) x ++ l
   unfolding digits_of
-  digit = rw (d.text, d.power) refl
+  digit its ten = rw (its, ten, d.text, d.power) refl
 
-  pub one_more : p ≤ x / 10 → Digits x (p * 10) l ((48 + x / p % 10) ∷ m)
-  one_more h = record {
+  pub one_more : {q r : ℕ} → q ≡ p → r ≡ 10 → p ≤ x / 10 → Digits x (p * 10) l ((48 + x / q % r) ∷ m)
+  one_more its ten h = record {
     count = suc d.count;
     power = ap (λ (n : ℕ). n * 10) d.power ∙ sym (pow-suc 10 d.count);
     needed = λ some. omega arith;
-    text = digit;
+    text = digit its ten;
   }
 
-  pub all : x / 10 < p → x < 2 ^ 32 → (48 + x / p % 10) ∷ m ≡ decimal x ++ l
+  pub all : {q r : ℕ} → q ≡ p → r ≡ 10 → x / 10 < p → x < 2 ^ 32 → (48 + x / q % r) ∷ m ≡ decimal x ++ l
   unfolding decimal
-  all h fits =
+  all its ten h fits =
       let top : x < 10 ^ suc d.count = omega (arith, d.power, pow-suc 10 d.count) in
       let low : 0 < d.count → 10 ^ d.count ≤ x = λ some. omega (arith, d.needed some, d.power) in
-      digit ∙ ap (λ (w : ℕ). digits_of w x ++ l) (sym (width_is x d.count (omega arith) top low))
+      digit its ten ∙ ap (λ (w : ℕ). digits_of w x ++ l) (sym (width_is x d.count (omega arith) top low))
 
 -- ---- parts, written from the last one on
 -- parts that are still to come, in front of what is written

@@ -1,6 +1,7 @@
--- Bytes written into a buffer from a place on: words for laws of pieces. No function of the library writes so.
+-- Bytes written into a lent buffer from a place on.
 use Rattle.std.specs.Prelude.{ℕ, suc, ◌+◌, ◌≤◌, ◌<◌, ◌≡◌, refl, cond, List, [], ◌∷◌, ◌++◌, length, take, drop, set, leb}
-use Rattle.std.proofs.Common.{sym, ap, ◌∙◌, subst, arith, le-leb, length-append, length-take, take_at, drop_at}
+use Rattle.std.proofs.Common.{sym, ap, ◌∙◌, subst, arith, le-leb, append_assoc, length-append, length-take, take_at, drop_at, drop-drop}
+use borrow.Rule.Slice.PartMut.{put_mid}
 use Rattle.std.proofs.lemmas.Bool.{lt-leb}
 use Rattle.std.proofs.lemmas.List.Edits.{sets, sets-eq}
 use Rattle.std.proofs.Math.Seq.{length-sets}
@@ -22,12 +23,27 @@ has_room room l at bs h = simp (le-leb _ _ h)
 pub wrote-same : {l m xs bs : List ℕ} {at r : ℕ} → xs ≡ bs → Wrote l at xs m r → Wrote l at bs m r
 wrote-same {l} {m} {xs} {bs} {at} {r} e w = subst (λ (k : List ℕ). Wrote l at k m r) e w
 
+pub next-same : {l m bs : List ℕ} {at r q : ℕ} → r ≡ q → Wrote l at bs m q → Wrote l at bs m r
+next-same e w = record { bytes = w.bytes; next = omega (arith, e, w.next) }
+
 pub nothing_written : (l : List ℕ) (at : ℕ) → Wrote l at [] l at
 nothing_written l at = record { bytes = refl; next = omega arith }
 
 pub no_room : (room : ℕ) (l : List ℕ) (at : ℕ) (bs : List ℕ) → length l < at + room → Wrote l at (if_room room l at bs) l at
 unfolding if_room
 no_room room l at bs h = simp (lt-leb _ _ h) (nothing_written l at)
+
+-- bytes that are put in the place of as many others are written
+pub wrote-mid :
+    {l xs bs : List ℕ} {at from n r : ℕ} → from ≡ at → n ≡ length bs → r ≡ at + n → at + n ≤ length l → xs ≡ bs → Wrote l at bs (put_mid from n l xs) r
+wrote-mid {l} {xs} {bs} {at} f k q h e = record {
+  bytes = rw (f, e, k) (
+      sym (append_assoc (take at l) bs (drop (length bs) (drop at l)))
+      ∙ ap (λ (z : List ℕ). take at l ++ bs ++ z) (drop-drop (length bs) at l)
+      ∙ sym (sets-eq bs l at (omega (arith, k)))
+      );
+  next = omega (arith, k, q);
+}
 
 -- one run of stores after another
 sets_append : (xs bs l : List ℕ) (i : ℕ) → sets (sets l i xs) (i + length xs) bs ≡ sets l i (xs ++ bs)

@@ -1,5 +1,6 @@
 pub mod Decimal
 pub mod Lines
+pub mod Ends
 pub mod ReadBack
 pub mod Printing
 pub mod Cases

@@ -1,14 +1,19 @@
-// Numbers and lines as bytes.
+// Numbers and lines as bytes, into a lent buffer or a writer; and the bytes of a reader into a lent buffer.
 #![tactic(auto)]
 
 ghost use Rattle.std.specs.Prelude.{◌≡◌, ℕ, ◌+◌, ◌<◌, ◌≤◌, List, ◌∷◌, ◌++◌, length, take, drop};
 ghost use Rattle.text.specs.Decimal.{decimal};
+ghost use Rattle.text.specs.Buffer.{Wrote, if_room};
 ghost use Rattle.text.specs.Lines.{most_parts, part_room, line_room, part_bytes, line_bytes};
+ghost use Rattle.text.specs.Ends.{EndsAt, array_of, start_of, array-back, start-back};
 ghost use Rattle.text.specs.Printing.{Prints};
 
+pub use input::read_full;
 use std::io;
 use std::io::{ErrorKind, Write};
 use std::marker::Model;
+
+mod input;
 
 // "A number is 1 to 10 digits."
 pub const MAX_DIGITS: usize = 10;
@@ -24,13 +29,13 @@ pub enum Part {
 }
 
 // The most bytes a line has: its letter, five parts of a comma and a number, and the line feed.
-const ROOM: usize = 2 + MAX_PARTS * (1 + MAX_DIGITS);
+pub const LINE_ROOM: usize = 2 + MAX_PARTS * (1 + MAX_DIGITS);
 
 // A line that is printed. Its bytes stand at the end of the array, since it is written from its end on: of a number the last digit
 // comes first. An array and where the line starts in it: nothing here may allocate.
-#[derive(Drop)]
+#[derive(Clone, Copy)]
 pub struct Line {
-    bytes: [u8; ROOM],
+    bytes: [u8; LINE_ROOM],
     start: usize,
 }
 
@@ -39,7 +44,12 @@ impl Model for Line {
 
     ghost view = { λ line. drop line.start line.bytes };
 
-    ghost invariant = { λ line. line.start ≤ line_room };
+    // What stands before the line is 0, so its bytes give the fields back.
+    ghost invariant = { λ line. EndsAt line.bytes line.start };
+
+    ghost inverse = { λ line. record { bytes = array_of line; start = start_of line } };
+
+    ghost inverse_ok = { λ line ends i. record { bytes = array-back ends i; start = start-back ends i } };
 }
 
 impl Line {
@@ -49,8 +59,8 @@ impl Line {
         ensures { result ≡ line_bytes (record { letter = letter; parts = take most_parts parts.now }) }
     {
         let mut line = Line {
-            bytes: [0; ROOM],
-            start: ROOM,
+            bytes: [0; LINE_ROOM],
+            start: LINE_ROOM,
         };
         line.put(b'\n');
         for part in parts[..parts.len().min(MAX_PARTS)].iter().rev() {
@@ -69,7 +79,8 @@ impl Line {
 
     // Its bytes, for a caller that keeps them in a buffer of its own.
     pub fn as_bytes(&self) -> &[u8]
-        ensures { result.now ≡ self.now }
+        ensures bytes { result.now ≡ self.now }
+        ensures room { length result.now ≤ line_room }
     {
         &self.bytes[self.start..]
     }
@@ -91,14 +102,12 @@ impl Line {
         ensures short { length self.new < length self.old + part_room }
     {
         let mut power: u32 = 1;
-        let mut rest = x;
         loop {
-            self.put(b'0' + (rest % 10) as u8);
+            self.put(b'0' + (x / power % 10) as u8);
             if x / 10 < power {
                 return;
             }
             power = power * 10;
-            rest = rest / 10;
         }
     }
 
@@ -116,9 +125,23 @@ impl Line {
     }
 }
 
+// Writes a line from a place on, and says where the next one goes: nothing, and the same place, where LINE_ROOM bytes are not left.
+pub fn write_line(out: &mut [u8], at: usize, line: Line) -> usize
+    ensures room { result ≤ at + line_room }
+    ensures written { Wrote out.old at (if_room line_room out.old at line) out.new result }
+{
+    if out.len() < at || out.len() - at < LINE_ROOM {
+        return at;
+    }
+    let bytes = line.as_bytes();
+    let end = at + bytes.len();
+    out[at..end].copy_from_slice(bytes);
+    end
+}
+
 // Prints bytes, by as many writes as the writer takes. Not std's write_all: of an error that says nothing, and `Prints` does. The loop counts, since every
 // loop has to end.
-fn print<W: Write>(out: &mut W, bytes: &[u8]) -> io::Result<()>
+pub fn print<W: Write>(out: &mut W, bytes: &[u8]) -> io::Result<()>
     ensures { Prints (W.contents out.old) (W.contents out.new) result bytes.now }
 {
     let mut rest = bytes;

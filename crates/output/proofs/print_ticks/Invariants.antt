@@ -1,13 +1,16 @@
+-- What was printed so far, and what is to be printed from the place on, are all that is to be printed.
+use Rattle.std.proofs.Common.{◌≡◌, length}
 use Rattle.text.specs.Printing.{Printing}
-use Rattle.table.specs.State.{fresh_state}
-use Rattle.plan.specs.Plan.{arrivals_from}
-use Rattle.output.specs.Totals.{no_totals}
-use Rattle.output.specs.Coming.{coming}
-use Rattle.output.specs.Output.{ticks_text}
-use Rattle.output.proofs.Laws.{ticks_from}
+use Rattle.output.specs.Steps.{first_place}
+use Rattle.output.specs.Rest.{text_from}
+use Rattle.output.proofs.Rest.{steps_left}
 use Rattle.output.proofs.print_ticks.Given as goal
 
-abbrev pub invariant-loop-t : goal.invariant-loop-t
-invariant-loop-t g l =
-    Printing (g.W.Write.contents l.initial.out) (g.W.Write.contents l.out) (ticks_text l.fn.plan.ticks 0 no_totals (fresh_state l.fn.plan.table) (arrivals_from l.text 0))
-    (ticks_from l.fn.plan.ticks l.t l.totals l.session (coming l.arrivals))
+abbrev pub invariant-loop-place : goal.invariant-loop-place
+invariant-loop-place g l = record {
+  printed : Printing (g.W.Write.contents l.initial.out) (g.W.Write.contents l.out) (text_from l.text l.fn.plan.ticks (first_place l.text l.fn.plan.table)) (text_from l.text l.fn.plan.ticks l.place);
+  room : length l.buffer ≡ length l.initial.buffer;
+}
+
+abbrev pub decreases-loop-place : goal.decreases-loop-place
+decreases-loop-place g l = steps_left l.text l.fn.plan.ticks l.place

@@ -3,12 +3,15 @@ use Rattle.server.specs.Limits.{last_clock}
 use Rattle.table.specs.Refusal.{figures}
 use Rattle.rules.specs.Calls.{run_check}
 use Rattle.rules.proofs.Figures.{run_figures_lem}
+use Rattle.scheduler.specs.Allowance.{allowance}
+use Rattle.scheduler.proofs.Ask.{run-says}
 use Rattle.scheduler.proofs.Known.{known-first}
 use Rattle.scheduler.proofs.Runs.{Allowed, allowed, run_list_lem}
 use Rattle.scheduler.proofs.run.Goals as goal
 use Rattle.scheduler.proofs.run.Goals.{In_ok-check_run}
 
 passes : (c : In_ok-check_run) → run_check c.args.state.now c.args.k (length c.args.entries.now) ≡ Ok tt
+unfolding allowance
 passes c = sym c.check_run.ensures ∙ c.in_ok-check_run.was
 
 fits : (c : In_ok-check_run) → Allowed c.args.state.now c.args.k (length c.args.entries.now)
@@ -18,8 +21,8 @@ pub returns-in_err-check_run-clause-in_figures : goal.returns-in_err-check_run-c
 returns-in_err-check_run-clause-in_figures c =
     let s = c.args.state.now in
     let n = length c.args.entries.now in
-    let e : c.from_residual.result ≡ run_check s c.args.k n = search rules in
-    ap figures e ∙ run_figures_lem s c.args.k n
+    let e : c.from_residual.result ≡ (allowance s c.args.k n).answer = search rules in
+    ap figures e ∙ run-says s c.args.k n
 
 pub slice_bounds-run_ticks-end : goal.slice_bounds-run_ticks-end
 slice_bounds-run_ticks-end c = (fits (goal.at.slice_bounds-run_ticks-end c).In_ok-check_run).room

@@ -34,5 +34,8 @@ returns-clause-next c =
     c.by_budget-serves.ensures c.work_task.ensures c.work_request-finished.ensures.serves c.consume-state.ensures
     (c.move_returns.ensures ∙ ap (λ (P : ℕ). cond (moves c.edge-edge.result serves) (advanced P s.progress.clock serves s.returns) s.returns) c.delay-period.ensures)
 
+pub returns-clause-calm : goal.returns-clause-calm
+returns-clause-calm c = c.open_due-drops.ensures.calm
+
 pub returns-clause-known : goal.returns-clause-known
-returns-clause-known c = known-on c.args.state.now c.args.calm.now _ _ c.requires.known c.requires.early (returns-clause-next c) c.open_due-drops.ensures.calm
+returns-clause-known c = known-on c.args.state.now c.args.calm.now _ _ c.requires.known c.requires.early (returns-clause-next c) (returns-clause-calm c)

@@ -24,7 +24,7 @@ use Rattle.admission.specs.declared.Work.{Work}
 use Rattle.bounds.specs.Least.{least}
 use Rattle.bounds.specs.Demand.{tasks_demand}
 use Rattle.bounds.specs.Terms.{demand_of}
-use Rattle.admission.specs.Jumps.{whole, Sure, TaskParts, ServerPart, ServerLead, ServerTerm, Counted, DemandAt, OpenFrom, FirstMet}
+use Rattle.admission.specs.Jumps.{whole, Sure, TaskParts, ServerPart, ServerLead, Counted, DemandAt, OpenFrom, FirstMet}
 use Rattle.bounds.proofs.Laws.{least-is, least-none, term_mono, server_mono}
 use Rattle.admission.proofs.Laws.{tasks-step, demand_with, demand-without}
 use Rattle.admission.proofs.Shares.{ceil_reaches, ceil-some, part_le, share_le, load_le}
@@ -153,12 +153,14 @@ module _ (s : Server) (n v : ℕ) (limits : ServerLimits s n) (part : ServerPart
 
 -- the demand of a table's first tasks, with its server's term and without it
 module _ (t : Table) (i own l : ℕ) (w : Work) (h : i ≤ t.n) (at : DemandAt (λ x. own + tasks_demand (take i t.tasks) x) l w) where
-  pub with_server_lem : (x : Term) (r : Work) → ServerTerm t.server l x → Counted w x r → DemandAt (demand_of (task_set_of t) i own true) l r
-  with_server_lem x r term c =
+  pub with_server_lem : (x : Term) (r : Work) → x.turns * x.exec ≡ server_demand (kind_of t.server.kind) t.server l → x.lead ≤ max_time * whole →
+      ((L : ℕ) → x.lead + x.exec * x.part * L ≤ whole * server_demand (kind_of t.server.kind) t.server L) → Counted w x r →
+      DemandAt (demand_of (task_set_of t) i own true) l r
+  with_server_lem x r turns leads sure c =
       let k = kind_of t.server.kind in
       counted-at (λ x. own + tasks_demand (take i t.tasks) x) (server_demand k t.server) (demand_of (task_set_of t) i own true) l x w r
       (λ x. sym (demand_with t i own x (tasks_demand (take i t.tasks) x) h refl (server_demand k t.server x) refl))
-      term.turns (server_mono k t.server l) term.leads term.sure at c
+      turns (server_mono k t.server l) leads sure at c
 
   pub without-server : DemandAt (demand_of (task_set_of t) i own false) l w
   without-server = record {

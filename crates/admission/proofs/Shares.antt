@@ -4,7 +4,7 @@ use Prim.Native.Nat.{ℕ, ◌+◌, ◌-◌, ◌*◌, ◌/◌, ◌%◌, ◌≤◌
 use Rattle.std.specs.Int.{div_ceil}
 use native.Mathlib.Decide.{dec_le}
 use native.Mathlib.Omega.{arith}
-use native.Mathlib.Nat.{div-add-mod', mod-lt, div-mul-le_self, le-div_iff_mul-le, div-lt_iff_lt-mul, lt_of_mul-lt-mul_right, mul-le-mul, mul-le-mul_left, mul-le-mul_right, add-mul, sub-add_cancel}
+use native.Mathlib.Nat.{div-add-mod', mod-lt, div-mul-le_self, div-le_self, le-div_iff_mul-le, div-lt_iff_lt-mul, lt_of_mul-lt-mul_right, mul-le-mul, mul-le-mul_left, mul-le-mul_right, add-mul, sub-add_cancel}
 use mathlib.Core.Path.{◌≡◌, ap, sym, ◌∙◌}
 use Rattle.lists.specs.Time.{ceil}
 use Rattle.server.specs.Limits.{max_time}
@@ -52,6 +52,10 @@ module _ (n p : ℕ) (h : 1 ≤ p) (small : n * p < whole) where
   turns-by-part = omega (arith, low, high)
 
 module _ (l p v : ℕ) (span : l ≤ max_time) where
+  -- the product fits 64 bits
+  pub product_le : p ≤ max_time → v ≡ whole / p → (l + (p - 1)) * (v + 1) ≤ max_turns * (whole + 1)
+  product_le k e = mul-le-mul {n₁ = l + (p - 1)} {m₁ = v + 1} {n₂ = max_turns} {m₂ = whole + 1} (omega arith) (omega (arith, div-le_self whole p))
+
   pub turns-are : 1 ≤ p → p ≤ max_time → v ≡ whole / p →
       ((l + (p - 1)) * (v + 1) / whole ≡ ceil l p) × ((l + (p - 1)) * (v + 1) / whole ≤ max_turns)
   turns-are h k e =
@@ -88,3 +92,6 @@ before_open fixed extra rate x below h =
     let a : x * rest < fixed * whole + extra = below_ceil (fixed * whole + extra) rest x (omega arith) h in
     let e : rest * x + rate * x ≡ whole * x = sym (add-mul rest rate x) ∙ ap (λ (n : ℕ). n * x) (sub-add_cancel {n = whole} {m = rate} (omega arith)) in
     omega arith
+
+pub past-whole : (fixed extra rate x : ℕ) → 1 ≤ fixed → whole ≤ rate → whole * x < whole * fixed + extra + rate * x
+past-whole fixed extra rate x h k = omega (arith, mul-le-mul_right x k)

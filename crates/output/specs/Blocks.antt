@@ -1,5 +1,4 @@
--- Ticks of which none finishes a request and before whose last no A line is due, and their X lines, from a run's record. The code prints tick by
--- tick; laws say that the text is the same.
+-- Ticks that may be run at once, of which none finishes a request and before whose last no A line is due, and their X lines, from their record.
 use Rattle.std.specs.Prelude.{ℕ, ◌+◌, ◌≤◌, ◌<◌, cond, List, [], ◌∷◌, eqb}
 use Rattle.queue.specs.declared.Request.{Request}
 use Rattle.queue.specs.Queue.{waiting_of}

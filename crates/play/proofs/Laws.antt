@@ -26,7 +26,9 @@ use Rattle.scheduler.specs.Allowance.{block_call}
 use Rattle.scheduler.specs.Laws.{run_length}
 use Rattle.guarantee.specs.Calls.{Call, run, after, final}
 use Rattle.play.specs.Numbers.{call_of, calls_of}
+use Rattle.play.specs.declared.Report.{Report}
 use Rattle.play.specs.Report.{Made, made_at, drops_in, made, reported}
+use Rattle.play.specs.Promise.{Promise, promise}
 use Rattle.play.specs.Laws.{made_by, made_one, made_more, run_writes, run_records, moves}
 
 counted : (s : State) {a b c d : ℕ} → a ≡ b → c ≡ d → made_at s a c ≡ made_at s b d
@@ -153,9 +155,13 @@ pub told-or : (a : Result ℕ Refusal) → result_unwrap_or a 0 ≡ told a
 told-or (Ok work) = refl
 told-or (Err r) = refl
 
-pub played : (t : Table) (a : Bool) (x : State) (n d w : ℕ) (calls : List Call) → a ≡ (admission_of t).admitted →
-    made_at x n d ≡ made (fresh_state t) calls → w ≡ told (waiting_call x) →
-    record { admitted = a; ticks = n; drops = d; waiting = w; state = x } ≡ reported t calls
-played t a x n d w calls p q v =
-    let there : x ≡ final (fresh_state t) calls = ap (λ (m : Made). m.state) q in
-    (λ j. record { admitted = p j; ticks = (q j).ticks; drops = (q j).drops; waiting = (v ∙ ap (λ (s : State). told (waiting_call s)) there) j; state = (q j).state })
+pub played : (t : Table) (a : Bool) (x : State) (n d w : ℕ) (calls : List Call) → length t.tasks ≡ max_tasks → a ≡ (admission_of t).admitted →
+    made_at x n d ≡ made (fresh_state t) calls → w ≡ told (waiting_call x) → let r : Report = record { admitted = a; ticks = n; drops = d; waiting = w; state = x } in
+    (r ≡ reported t calls) × Promise t calls r
+played t a x n d w calls z p q v = (is, promise t calls _ z is)
+  where
+    there : x ≡ final (fresh_state t) calls
+    there = ap (λ (m : Made). m.state) q
+
+    is : ◌≡◌ {A = Report} (record { admitted = a; ticks = n; drops = d; waiting = w; state = x }) (reported t calls)
+    is = (λ j. record { admitted = p j; ticks = (q j).ticks; drops = (q j).drops; waiting = (v ∙ ap (λ (s : State). told (waiting_call s)) there) j; state = (q j).state })

@@ -26,7 +26,7 @@ use Rattle.server.proofs.Within.{part-timed, consumed-is-consume}
 use Rattle.queue.specs.declared.Request.{Request}
 use Rattle.queue.specs.declared.Queue.{Queue}
 use Rattle.queue.specs.declared.Finished.{Finished}
-use Rattle.queue.specs.Queue.{waits, waiting_of, queue_with}
+use Rattle.queue.specs.Queue.{max_waiting, waits, waiting_of, queue_with}
 use Rattle.queue.specs.Steps.{served_queue}
 use Rattle.queue.specs.Laws.{waits-some, served_with}
 use Rattle.table.specs.declared.Table.{Table}
@@ -103,6 +103,21 @@ calm_after_lem s c may long calm =
 queue-stays : (q : Queue) → q.n ≤ length q.requests → queue_with q (waiting_of q) q.backlog ≡ q
 queue-stays q h = rw (overlay_take q.n q.requests, length-take-le q.n q.requests h)
 
+module _ (s : State) (room : s.queue.n ≤ max_waiting) (long : length s.queue.requests ≡ max_waiting) where
+  -- a request that has the tick waits
+  some-waits : to_request (turn_at (task_set_of s.table) (model_of s)) ≡ true → 1 ≤ s.queue.n
+  some-waits e = waits-some s.queue (request-waits (task_set_of s.table) (model_of s) e)
+
+  pub queue-after : (b : Bool) → to_request (turn_at (task_set_of s.table) (model_of s)) ≡ b → cond b (served_queue s.queue) s.queue ≡ (state_after s).queue
+  queue-after b e = ap (λ (c : Bool). cond c (served_queue s.queue) s.queue) (sym e) ∙ go (turn_at (task_set_of s.table) (model_of s)) refl
+    where
+      go : (turn : Turn) → turn_at (task_set_of s.table) (model_of s) ≡ turn →
+          cond (to_request turn) (served_queue s.queue) s.queue ≡ queue_with s.queue (worked_queue turn (waiting_of s.queue)) (worked_backlog turn s.queue.backlog)
+      go Turn.Nobody t = sym (queue-stays s.queue (omega (arith, room, long)))
+      go (Turn.Task i) t = sym (queue-stays s.queue (omega (arith, room, long)))
+      go Turn.Budget t = served_with s.queue (some-waits (ap to_request t)) room
+      go Turn.Spare t = served_with s.queue (some-waits (ap to_request t)) room
+
 -- ---- the whole tick of a state that may run one
 module _ (s : State) (may : may_run 1 s ≡ true) (z : Sized s) where
   abbrev t : Table
@@ -173,19 +188,6 @@ module _ (s : State) (may : may_run 1 s ≡ true) (z : Sized s) where
   consumed-is =
       consumed-is-consume t.server (server_at (task_set_of t) (model_of s)).part (seen_at (task_set_of t) (model_of s)) limits.server.period facts.clock timed
 
-  -- the queue: it stays, or its head is served
-  some-waits : to_request now ≡ true → 1 ≤ q.n
-  some-waits e = waits-some q (request-waits (task_set_of t) (model_of s) e)
-
-  queue-after : cond (to_request now) (served_queue q) q ≡ (state_after s).queue
-  queue-after = go now refl
-    where
-      go : (turn : Turn) → now ≡ turn → cond (to_request turn) (served_queue q) q ≡ queue_with q (worked_queue turn (waiting_of q)) (worked_backlog turn q.backlog)
-      go Turn.Nobody e = sym (queue-stays q (omega (arith, facts.waiting, z.requests)))
-      go (Turn.Task i) e = sym (queue-stays q (omega (arith, facts.waiting, z.requests)))
-      go Turn.Budget e = served_with q (some-waits (ap to_request e)) facts.waiting
-      go Turn.Spare e = served_with q (some-waits (ap to_request e)) facts.waiting
-
   -- none waits after the tick's work where the count is 0
   emptied-is : eqb (state_after s).queue.n 0 ≡ not (waits (worked_queue now (waiting_of q)))
   emptied-is = go (worked_queue now (waiting_of q))
@@ -242,7 +244,7 @@ module _ (s : State) (may : may_run 1 s ≡ true) (z : Sized s) where
     next-is b m v y w eb em ev ey ew =
         let b1 : b ≡ by_budget now = eb ∙ ap by_budget turn-is in
         let m1 : m ≡ overlay (worked_tasks now lefts) p.left = em ∙ rw (turn-is, el) (worked-overlay now lefts p.left within) in
-        let v1 : v ≡ (state_after s).queue = ev ∙ rw turn-is queue-after in
+        let v1 : v ≡ (state_after s).queue = ev ∙ rw turn-is (queue-after s facts.waiting z.requests (to_request now) refl) in
         let y1 : y ≡ (state_after s).progress.server = ey ∙ rw (full, b1, above, busy, waits-is, v1, emptied-is) consumed-is in
         let w1 : w ≡ (state_after s).returns = ew ∙ rw (b1, eg) moves-after in
         rw (m1, y1, v1, w1)

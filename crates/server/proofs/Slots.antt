@@ -116,10 +116,6 @@ module _ (d : Stretch) where
       rw (q, e, or_true (ltb (length (take (suc i) l)) max_held), on_length t l i (omega arith) o)
       (ap (λ (r : List Stretch). returns_of r (suc i)) (on_array t l i (omega arith) o))
 
-pub goes-some : (t : ℕ) (l : List Stretch) (n : ℕ) → goes_on t (take n l) ≡ true → 1 ≤ n
-goes-some t l zero e = never refl e
-goes-some t l (suc n) e = omega arith
-
 -- as one of its own
 grown-push : (t : ℕ) (us : List Stretch) → goes_on t us ≡ false → grown t us ≡ us ++ (record { start = t; length = 1 } ∷ [])
 grown-push t [] e = refl

@@ -150,7 +150,7 @@ impl Returns {
         }
     }
 
-    // Tick t is held, in its slot.
+    // Tick t is held, in its slot; where there is no room nothing changes.
     fn hold(&mut self, t: u32)
         requires few { self.old.n ≤ max_held }
         requires early { t < last32 }

@@ -6,7 +6,7 @@ use Rattle.rules.proofs.Figures.{run_figures_lem}
 use Rattle.scheduler.specs.Allowance.{allowance}
 use Rattle.scheduler.proofs.Ask.{run-says}
 use Rattle.scheduler.proofs.Known.{known-first}
-use Rattle.scheduler.proofs.Runs.{Allowed, allowed, run_list_lem}
+use Rattle.scheduler.proofs.Runs.{Allowed, allowed, state_passed, list_passed}
 use Rattle.scheduler.proofs.run.Goals as goal
 use Rattle.scheduler.proofs.run.Goals.{In_ok-check_run}
 
@@ -39,12 +39,14 @@ run_ticks-requires-clause-clock c =
     omega (arith, length-take c.args.k c.args.entries.now)
 
 pub returns-clause-next : goal.returns-clause-next
-returns-clause-next c = rw (passes (goal.at.returns-clause-next c).In_ok-check_run) (c.run_ticks.ensures.next ∙ rw (length-take-le _ _ (fits (goal.at.returns-clause-next c).In_ok-check_run).room) refl)
+returns-clause-next c =
+    let before = (goal.at.returns-clause-next c).In_ok-check_run in
+    c.run_ticks.ensures.next ∙ rw (length-take-le _ _ (fits before).room) (state_passed c.args.state.now c.args.k (length c.args.entries.now) (passes before))
 
 pub returns-clause-record : goal.returns-clause-record
 returns-clause-record c =
     let before = (goal.at.returns-clause-record c).In_ok-check_run in
-    rw (c.run_ticks.ensures.record, length-take-le _ _ (fits before).room) (run_list_lem c.args.state.now c.args.k c.args.entries.now (passes before))
+    rw (c.run_ticks.ensures.record, length-take-le _ _ (fits before).room) (list_passed c.args.state.now c.args.k c.args.entries.now (passes before))
 
 pub returns-clause-in_figures : goal.returns-clause-in_figures
 returns-clause-in_figures c = sym (ap figures (passes (goal.at.returns-clause-in_figures c).In_ok-check_run)) ∙ run_figures_lem c.args.state.now c.args.k (length c.args.entries.now)

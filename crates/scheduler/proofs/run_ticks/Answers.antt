@@ -1,5 +1,5 @@
-use Rattle.std.proofs.Common.{arith, refl}
-use Rattle.scheduler.proofs.Runs.{going_on, going_ends}
+use Rattle.std.proofs.Common.{arith, refl, ◌∙◌}
+use Rattle.scheduler.proofs.Runs.{ran-all, going_on, going_ends}
 use Rattle.scheduler.proofs.run_ticks.Goals as goal
 
 pub loop-entry-preserved : goal.loop-entry-preserved
@@ -8,7 +8,7 @@ loop-entry-preserved c =
     c.advance.ensures.known c.advance.ensures.says c.entry.ensures
 
 pub returns-clause-next : goal.returns-clause-next
-returns-clause-next c = (going_ends _ _ _ _ _ _ _ c.loop-entry.invariant refl (omega arith)).0
+returns-clause-next c = (going_ends _ _ _ _ _ _ _ c.loop-entry.invariant (omega arith)).0
 
 pub returns-clause-record : goal.returns-clause-record
-returns-clause-record c = (going_ends _ _ _ _ _ _ _ c.loop-entry.invariant refl (omega arith)).1
+returns-clause-record c = (going_ends _ _ _ _ _ _ _ c.loop-entry.invariant (omega arith)).1 ∙ ran-all _ _ _ refl

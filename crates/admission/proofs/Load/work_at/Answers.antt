@@ -88,7 +88,8 @@ pub returns-then-demand : goal.returns-then-demand
 returns-then-demand c =
     let d = c.args.demand in
     let at = rw (ended (goal.at.returns-then-demand c).In-None) at c.loop-task.invariant.at in
-    rw c.if-demand.true (with_server_lem c.args.self.now.table.now d.above d.own c.args.l _ c.requires.before at _ _ c.server_term.ensures c.with.ensures)
+    let term = c.server_term.ensures in
+    rw c.if-demand.true (with_server_lem c.args.self.now.table.now d.above d.own c.args.l _ c.requires.before at _ _ term.turns term.leads term.sure c.with.ensures)
 
 pub returns : goal.returns
 returns c =
